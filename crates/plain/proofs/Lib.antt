@@ -1,0 +1,4 @@
+pub mod Keys
+pub mod Sets
+pub mod Laws
+pub mod Scans

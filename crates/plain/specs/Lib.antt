@@ -1,0 +1,5 @@
+pub mod Points
+pub mod Set
+pub mod Windows
+pub mod Refused
+pub mod Laws
