@@ -1,0 +1,4 @@
+pub mod Writing
+pub mod Cuts
+pub mod Sayings
+pub mod Readings
