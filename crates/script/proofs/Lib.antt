@@ -1,0 +1,4 @@
+pub mod Joins
+pub mod Running
+pub mod Once
+pub mod ReadBack
