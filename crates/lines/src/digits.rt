@@ -8,6 +8,7 @@ ghost use Rattle.std.specs.Options.{Cases as BySome};
 ghost use Rattle.lines.specs.Digits.{Decimal, Pattern, Hex, digit};
 
 const MOST_DIGITS: usize = 20;
+
 const PATTERN_DIGITS: usize = 8;
 
 // The number that a decimal field writes, if it is at most `top`.

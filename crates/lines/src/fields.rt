@@ -11,7 +11,9 @@ use crate::digits::decimal;
 use crate::digits::pattern;
 
 const TOP_EPOCH: u64 = u64::MAX;
+
 const TOP_NUMBER: u64 = 0xffff_ffff;
+
 const MOST_PLACES: u64 = 64;
 
 // An epoch, a number and a pattern.

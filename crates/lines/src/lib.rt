@@ -6,5 +6,6 @@ mod line;
 mod theorems;
 
 pub use command::Command;
+pub use command::CommandPartialEq;
 pub use line::parse;
 pub use theorems::one_reading;

@@ -15,11 +15,19 @@ pub fn parse(line: &[u8]) -> Option<Command>
     match line {
         [b'i', b' ', rest @ ..] => {
             let (epoch, number, pattern) = point(rest)?;
-            Some(Command::Insert { epoch, number, pattern })
+            Some(Command::Insert {
+                epoch,
+                number,
+                pattern,
+            })
         }
         [b'c', b' ', rest @ ..] => {
             let (epoch, number, pattern) = point(rest)?;
-            Some(Command::Change { epoch, number, pattern })
+            Some(Command::Change {
+                epoch,
+                number,
+                pattern,
+            })
         }
         [b'd', b' ', rest @ ..] => {
             let (epoch, number) = key(rest)?;

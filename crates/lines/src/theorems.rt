@@ -3,5 +3,4 @@ ghost use Rattle.lines.specs.Grammar.{OneReading};
 
 pub fn one_reading()
     ensures { λ _. ⌜ OneReading ⌝ }
-{
-}
+{}

@@ -1,10 +1,13 @@
 -- What a command prints, and the set that it leaves.
-use mathlib.Core.List.{List}
+use mathlib.Core.Path.{_≡_}
+use mathlib.Core.List.{List, _++_}
 use Prim.Native.Nat.{ℕ}
 use lib.Ieee.{Float}
 use lib.ListN.{length}
 use Rattle.std.specs.declared.option.Option.{Option}
 use Rattle.std.specs.declared.option.Option.the-variants.{Some, None}
+use Rattle.std.specs.declared.result.Result.{Result}
+use Rattle.std.specs.Vec.{made}
 use Rattle.kinds.specs.Kinds.{small}
 use Rattle.kinds.specs.Weight.{weightOf}
 use Rattle.refusals.specs.declared.Refusal.{Refusal}
@@ -57,3 +60,7 @@ printed (Delete e n) ps = told (deleteRefused small (keyOf e n) ps) okText
 printed (Sum l u) ps = told (frontierRefused small l u frontier ps) (sumText (total (λ w. w) (window small l u ps)) (length (window small l u ps)))
 printed (First l u k) ps = told (frontierRefused small l u frontier ps) (firstText (firsts small k l u ps))
 printed (Range l u p) ps = told (rangeRefused small l u (weightOf p)) (rangeText (length (matches small l u (weightOf p) ps)))
+
+-- a command that finds memory leaves the set that it should, and adds to the output what it should
+abbrev pub Obeyed : {X Y : Type 0} → Command → Points → List ℕ → Result X Y → Points → List ℕ → Type 0
+Obeyed c ps out r qs new = made r (λ _. (qs ≡ after c ps) × (new ≡ out ++ printed c ps))

@@ -1,17 +1,13 @@
 // Commands that change the set.
-ghost use mathlib.Core.Path.{_≡_};
-ghost use mathlib.Core.List.{_++_};
 ghost use Rattle.std.specs.Of.Vec.{vec-items};
-ghost use Rattle.std.specs.Vec.{made};
-ghost use Rattle.kinds.specs.Kinds.{small};
-ghost use Rattle.plain.specs.Set.{put, remove, reweigh};
-ghost use Rattle.plain.specs.Refused.{insertRefused, deleteRefused, changeRefused};
 ghost use Rattle.store.specs.Residuals.{pointsOf};
-ghost use Rattle.script.specs.Limits.{room};
-ghost use Rattle.script.specs.Text.{okText};
-ghost use Rattle.script.specs.Replies.{left, told};
+ghost use Rattle.script.specs.Replies.{Obeyed};
 use crate::text::put_ok;
 use crate::text::put_refusal;
+use kinds::Kind;
+use kinds::Small;
+use kinds::SmallKind;
+use lines::Command;
 use plain::Key;
 use plain::Point;
 use std::alloc::AllocError;
@@ -19,29 +15,53 @@ use std::alloc::Global;
 use store::Failure;
 use store::Residuals;
 
-pub fn insert(heap: Global, set: &mut Residuals, p: Point<u64, f32>, out: &mut Vec<u8>) -> Result<(), AllocError>
-    ensures { λ r. ⌜ made r (λ _. (pointsOf (now (set .exit)) ≡ left (insertRefused small room p (pointsOf (now (set .entry)))) (pointsOf (now (set .entry))) (put small p (pointsOf (now (set .entry))))) × (vec-items (now (out .exit)) ≡ vec-items (now (out .entry)) ++ told (insertRefused small room p (pointsOf (now (set .entry)))) okText)) ⌝ }
+pub fn insert(
+    heap: Global,
+    set: &mut Residuals,
+    epoch: u64,
+    number: u32,
+    pattern: u32,
+    out: &mut Vec<u8>,
+) -> Result<(), AllocError>
+    ensures { λ r. ⌜ Obeyed (Command.Insert epoch number pattern) (pointsOf (now (set .entry))) (vec-items (now (out .entry))) r (pointsOf (now (set .exit))) (vec-items (now (out .exit))) ⌝ }
 {
-    match set.insert(p) {
+    let key = Key { at: epoch, number };
+    match set.insert(Point {
+        key,
+        weight: Small::recall(pattern),
+    }) {
         Ok(()) => put_ok(out),
         Err(Failure::Refused(refusal)) => put_refusal(heap, out, refusal),
         Err(Failure::Memory) => Err(AllocError),
     }
 }
 
-pub fn delete(heap: Global, set: &mut Residuals, key: Key<u64>, out: &mut Vec<u8>) -> Result<(), AllocError>
-    ensures { λ r. ⌜ made r (λ _. (pointsOf (now (set .exit)) ≡ left (deleteRefused small key (pointsOf (now (set .entry)))) (pointsOf (now (set .entry))) (remove small key (pointsOf (now (set .entry))))) × (vec-items (now (out .exit)) ≡ vec-items (now (out .entry)) ++ told (deleteRefused small key (pointsOf (now (set .entry)))) okText)) ⌝ }
+pub fn change(
+    heap: Global,
+    set: &mut Residuals,
+    epoch: u64,
+    number: u32,
+    pattern: u32,
+    out: &mut Vec<u8>,
+) -> Result<(), AllocError>
+    ensures { λ r. ⌜ Obeyed (Command.Change epoch number pattern) (pointsOf (now (set .entry))) (vec-items (now (out .entry))) r (pointsOf (now (set .exit))) (vec-items (now (out .exit))) ⌝ }
 {
-    match set.delete(key) {
+    match set.change(Key { at: epoch, number }, Small::recall(pattern)) {
         Ok(()) => put_ok(out),
         Err(refusal) => put_refusal(heap, out, refusal),
     }
 }
 
-pub fn change(heap: Global, set: &mut Residuals, key: Key<u64>, weight: f32, out: &mut Vec<u8>) -> Result<(), AllocError>
-    ensures { λ r. ⌜ made r (λ _. (pointsOf (now (set .exit)) ≡ left (changeRefused small key weight (pointsOf (now (set .entry)))) (pointsOf (now (set .entry))) (reweigh small key weight (pointsOf (now (set .entry))))) × (vec-items (now (out .exit)) ≡ vec-items (now (out .entry)) ++ told (changeRefused small key weight (pointsOf (now (set .entry)))) okText)) ⌝ }
+pub fn delete(
+    heap: Global,
+    set: &mut Residuals,
+    epoch: u64,
+    number: u32,
+    out: &mut Vec<u8>,
+) -> Result<(), AllocError>
+    ensures { λ r. ⌜ Obeyed (Command.Delete epoch number) (pointsOf (now (set .entry))) (vec-items (now (out .entry))) r (pointsOf (now (set .exit))) (vec-items (now (out .exit))) ⌝ }
 {
-    match set.change(key, weight) {
+    match set.delete(Key { at: epoch, number }) {
         Ok(()) => put_ok(out),
         Err(refusal) => put_refusal(heap, out, refusal),
     }

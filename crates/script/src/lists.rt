@@ -11,7 +11,11 @@ use plain::Point;
 use std::alloc::AllocError;
 use std::alloc::Global;
 
-pub fn put_first(heap: Global, out: &mut Vec<u8>, points: &[Point<u64, f32>]) -> Result<(), AllocError>
+pub fn put_first(
+    heap: Global,
+    out: &mut Vec<u8>,
+    points: &[Point<u64, f32>],
+) -> Result<(), AllocError>
     ensures { λ r. ⌜ made r (λ _. vec-items (now (out .exit)) ≡ vec-items (now (out .entry)) ++ firstText (now (points .entry))) ⌝ }
 {
     let count = points.len();

@@ -13,7 +13,16 @@ pub fn pattern_text(n: u32) -> [u8; 8]
     let e = d / 16;
     let f = e / 16;
     let g = f / 16;
-    [last_digit(g), last_digit(f), last_digit(e), last_digit(d), last_digit(c), last_digit(b), last_digit(a), last_digit(n)]
+    [
+        last_digit(g),
+        last_digit(f),
+        last_digit(e),
+        last_digit(d),
+        last_digit(c),
+        last_digit(b),
+        last_digit(a),
+        last_digit(n),
+    ]
 }
 
 fn last_digit(n: u32) -> u8

@@ -38,7 +38,11 @@ fn run(heap: Global, script: &[u8], out: &mut Vec<u8>) -> Result<(), AllocError>
     while rest.len() > 0 {
         let n = line_len(rest);
         reply(heap, &mut set, &rest[0..n], out)?;
-        rest = if n < rest.len() { &rest[n + 1..] } else { &rest[n..] };
+        rest = if n < rest.len() {
+            &rest[n + 1..]
+        } else {
+            &rest[n..]
+        };
     }
     Ok(())
 }
@@ -58,7 +62,12 @@ fn line_len(s: &[u8]) -> usize
 }
 
 // Runs one line.
-fn reply(heap: Global, set: &mut Residuals, line: &[u8], out: &mut Vec<u8>) -> Result<(), AllocError>
+fn reply(
+    heap: Global,
+    set: &mut Residuals,
+    line: &[u8],
+    out: &mut Vec<u8>,
+) -> Result<(), AllocError>
     ensures { λ r. ⌜ made r (λ _. (o : List ℕ) × Reply (now (line .entry)) (pointsOf (now (set .entry))) o (pointsOf (now (set .exit))) × (vec-items (now (out .exit)) ≡ vec-items (now (out .entry)) ++ o)) ⌝ }
 {
     match parse(line) {

@@ -5,6 +5,7 @@ use mathlib.Core.List.{List, _++_}
 use Prim.Native.Nat.{ℕ, _<_}
 use lib.Ieee.{Float}
 use lib.ListN.{length, getD, set, drop}
+use Rattle.std.specs.declared.option.Option.{Option}
 use Rattle.std.specs.declared.option.Option.the-variants.{Some, None}
 use Rattle.std.specs.declared.result.Result.{Result}
 use Rattle.std.specs.declared.result.Result.the-variants.{Ok, Err}
@@ -15,7 +16,7 @@ use Rattle.refusals.specs.declared.Refusal.{Refusal}
 use Rattle.plain.specs.declared.point.Key.{Key}
 use Rattle.plain.specs.declared.point.Point.{Point}
 use Rattle.plain.specs.Set.{stands, put, remove, reweigh}
-use Rattle.plain.specs.Windows.{firsts}
+use Rattle.plain.specs.Windows.{window, firsts, total}
 use Rattle.plain.specs.Refused.{insertRefused, frontierRefused}
 use Rattle.store.specs.declared.failure.Failure.{Failure}
 use Rattle.store.specs.declared.failure.Failure.the-variants.{Refused, Memory}
@@ -45,6 +46,20 @@ abbrev pub Inserted : P → List P → Result (Unit {0}) Failure → List P → 
 Inserted p ps (Ok done) after = (insertRefused small room p ps ≡ None) × (after ≡ put small p ps)
 Inserted p ps (Err (Refused e)) after = (insertRefused small room p ps ≡ Some e) × (after ≡ ps)
 Inserted p ps (Err Memory) after = (insertRefused small room p ps ≡ None) × (after ≡ ps)
+
+-- a change that is granted leaves the new set, one that is refused the old one
+abbrev pub Changed : Option Refusal → List P → List P → Result (Unit {0}) Refusal → List P → Type 0
+Changed refused old new (Ok done) after = (refused ≡ None) × (after ≡ new)
+Changed refused old new (Err e) after = (refused ≡ Some e) × (after ≡ old)
+
+-- a question that is granted has this answer
+abbrev pub Answered : {X : Type 0} → Option Refusal → X → Result X Refusal → Type 0
+Answered refused answer (Ok x) = (refused ≡ None) × (x ≡ answer)
+Answered refused answer (Err e) = refused ≡ Some e
+
+-- the sum of the points in a window, from the earliest key on, and how many they are
+abbrev pub sumOfWindow : ℕ → ℕ → List P → Float × ℕ
+sumOfWindow l u ps = (total (λ w. w) (window small l u ps), length (window small l u ps))
 
 -- the first points of a window are written to the front of the list, and the other places are as they were
 abbrev pub Listed : ℕ → ℕ → List P → List P → Result ℕ Refusal → List P → Type 0

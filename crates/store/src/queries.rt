@@ -1,15 +1,12 @@
 // What the points of a window give.
-ghost use mathlib.Core.Path.{_≡_};
 ghost use lib.ListN.{length};
-ghost use Rattle.std.specs.Results.{Cases};
-ghost use Rattle.std.specs.declared.option.Option.the-variants.{Some, None};
 ghost use Rattle.kinds.specs.Kinds.{small};
-ghost use Rattle.plain.specs.Windows.{window, matches, total};
+ghost use Rattle.plain.specs.Windows.{matches};
 ghost use Rattle.plain.specs.Refused.{rangeRefused, frontierRefused};
-ghost use Rattle.store.specs.Residuals.{pointsOf, room, Listed};
-use crate::residuals::Residuals;
+ghost use Rattle.store.specs.Residuals.{pointsOf, room, sumOfWindow, Answered, Listed};
 use crate::checks::frontier_refused;
 use crate::checks::range_refused;
+use crate::residuals::Residuals;
 use kinds::Small;
 use kinds::SmallKind;
 use kinds::SmallSummed;
@@ -22,7 +19,7 @@ use refusals::Refusal;
 impl Residuals {
     // The sum of the points in a window, from the earliest key on, and how many they are.
     pub fn sum(&self, lo: u64, hi: u64) -> Result<(f32, usize), Refusal>
-        ensures { λ r. ⌜ Cases r (λ a. (frontierRefused small lo hi room (pointsOf (now (self .entry))) ≡ None) × (a ≡ (total (λ w. w) (window small lo hi (pointsOf (now (self .entry)))), length (window small lo hi (pointsOf (now (self .entry))))))) (λ e. frontierRefused small lo hi room (pointsOf (now (self .entry))) ≡ Some e) ⌝ }
+        ensures { λ r. ⌜ Answered (frontierRefused small lo hi room (pointsOf (now (self .entry)))) (sumOfWindow lo hi (pointsOf (now (self .entry)))) r ⌝ }
     {
         let points = self.points();
         match frontier_refused(points, lo, hi) {
@@ -44,7 +41,7 @@ impl Residuals {
 
     // How many points in a window are not weaker than the threshold.
     pub fn range(&self, lo: u64, hi: u64, threshold: f32) -> Result<usize, Refusal>
-        ensures { λ r. ⌜ Cases r (λ n. (rangeRefused small lo hi threshold ≡ None) × (n ≡ length (matches small lo hi threshold (pointsOf (now (self .entry)))))) (λ e. rangeRefused small lo hi threshold ≡ Some e) ⌝ }
+        ensures { λ r. ⌜ Answered (rangeRefused small lo hi threshold) (length (matches small lo hi threshold (pointsOf (now (self .entry))))) r ⌝ }
     {
         match range_refused(lo, hi, threshold) {
             Some(refusal) => Err(refusal),

@@ -1,17 +1,15 @@
 // The points, and what changes them.
 ghost use mathlib.Core.Path.{_≡_};
 ghost use mathlib.Core.List.{[]};
-ghost use Rattle.std.specs.Results.{Cases};
-ghost use Rattle.std.specs.declared.option.Option.the-variants.{Some, None};
 ghost use Rattle.kinds.specs.Kinds.{small};
 ghost use Rattle.plain.specs.Set.{remove, reweigh};
 ghost use Rattle.plain.specs.Refused.{deleteRefused, changeRefused};
-ghost use Rattle.store.specs.Residuals.{pointsOf, Inserted};
+ghost use Rattle.store.specs.Residuals.{pointsOf, Inserted, Changed};
+use crate::checks::change_refused;
+use crate::checks::insert_refused;
 use crate::failure::Failure;
 use crate::place::index_of;
 use crate::place::place;
-use crate::checks::change_refused;
-use crate::checks::insert_refused;
 use plain::Key;
 use plain::Point;
 use refusals::Refusal;
@@ -26,7 +24,9 @@ impl Residuals {
     pub fn new(heap: Global) -> Residuals
         ensures { λ r. ⌜ pointsOf r ≡ [] ⌝ }
     {
-        Residuals { points: Vec::new(heap) }
+        Residuals {
+            points: Vec::new(heap),
+        }
     }
 
     pub(crate) fn points(&self) -> &[Point<u64, f32>]
@@ -49,7 +49,7 @@ impl Residuals {
     }
 
     pub fn delete(&mut self, key: Key<u64>) -> Result<(), Refusal>
-        ensures { λ r. ⌜ Cases r (λ _. (deleteRefused small key (pointsOf (now (self .entry))) ≡ None) × (pointsOf (now (self .exit)) ≡ remove small key (pointsOf (now (self .entry))))) (λ e. (deleteRefused small key (pointsOf (now (self .entry))) ≡ Some e) × (pointsOf (now (self .exit)) ≡ pointsOf (now (self .entry)))) ⌝ }
+        ensures { λ r. ⌜ Changed (deleteRefused small key (pointsOf (now (self .entry)))) (pointsOf (now (self .entry))) (remove small key (pointsOf (now (self .entry)))) r (pointsOf (now (self .exit))) ⌝ }
     {
         match index_of(self.points.as_slice(), key) {
             Some(i) => {
@@ -61,7 +61,7 @@ impl Residuals {
     }
 
     pub fn change(&mut self, key: Key<u64>, weight: f32) -> Result<(), Refusal>
-        ensures { λ r. ⌜ Cases r (λ _. (changeRefused small key weight (pointsOf (now (self .entry))) ≡ None) × (pointsOf (now (self .exit)) ≡ reweigh small key weight (pointsOf (now (self .entry))))) (λ e. (changeRefused small key weight (pointsOf (now (self .entry))) ≡ Some e) × (pointsOf (now (self .exit)) ≡ pointsOf (now (self .entry)))) ⌝ }
+        ensures { λ r. ⌜ Changed (changeRefused small key weight (pointsOf (now (self .entry)))) (pointsOf (now (self .entry))) (reweigh small key weight (pointsOf (now (self .entry)))) r (pointsOf (now (self .exit))) ⌝ }
     {
         if let Some(refusal) = change_refused(self.points.as_slice(), key, weight) {
             return Err(refusal);

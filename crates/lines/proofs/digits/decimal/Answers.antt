@@ -31,9 +31,10 @@ returns-in-rest-checked-add c n h =
 
 pub loop-b-again : need.loop-b-again
 loop-b-again c =
-    let d : Ten (getD (c .args .s .now) (c .loop-b .b-index) 0) = (c .if-b-lt48 .left, c .if-b-gt57 .left) in
-    (all-more Ten (c .args .s .now) (c .loop-b .b-index) 0 (c .loop-b-test .taken) (c .loop-b .inv .0) d,
-     sym (writes-next (c .args .s .now) (c .loop-b .b-index) (c .loop-b .n) _ (c .loop-b-test .taken) d (omega (arith, c .in-Some-checked-add .ensures tt, c .in-Some .ensures tt, c .from .ensures))) ∙ c .loop-b .inv .1)
+    let d : Ten (getD (c .args .s .now) (c .loop-b .b-index) 0) = (c .if-b-lt48 .left, c .if-b-gt57 .left) in (
+      all-more Ten (c .args .s .now) (c .loop-b .b-index) 0 (c .loop-b-test .taken) (c .loop-b .inv .0) d,
+      sym (writes-next (c .args .s .now) (c .loop-b .b-index) (c .loop-b .n) _ (c .loop-b-test .taken) d (omega (arith, c .in-Some-checked-add .ensures tt, c .in-Some .ensures tt, c .from .ensures))) ∙ c .loop-b .inv .1,
+    )
 
 pub returns-then-n-top : need.returns-then-n-top
 returns-then-n-top c = record {

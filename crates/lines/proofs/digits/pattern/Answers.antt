@@ -22,10 +22,11 @@ add-n c = let eight : length (c .args .s .now) ≡ 8 = search needs in let r = h
 pub loop-b-again : need.loop-b-again
 loop-b-again c =
     let d = c .in-Some .ensures tt in
-    let f = c .from .ensures in
-    (all-more Hex (c .args .s .now) (c .loop-b .b-index) 0 (c .loop-b-test .taken) (c .loop-b .inv .0) (d .0),
-     sym (hex-next (c .args .s .now) (c .loop-b .b-index) (c .loop-b .n) _ (c .loop-b-test .taken) (omega (arith, d .1, f))) ∙ c .loop-b .inv .1,
-     hex-more (c .loop-b .n) (c .loop-b .b-index) (c .from .result) (c .loop-b .inv .2) (omega (arith, d .2, f)))
+    let f = c .from .ensures in (
+      all-more Hex (c .args .s .now) (c .loop-b .b-index) 0 (c .loop-b-test .taken) (c .loop-b .inv .0) (d .0),
+      sym (hex-next (c .args .s .now) (c .loop-b .b-index) (c .loop-b .n) _ (c .loop-b-test .taken) (omega (arith, d .1, f))) ∙ c .loop-b .inv .1,
+      hex-more (c .loop-b .n) (c .loop-b .b-index) (c .from .result) (c .loop-b .inv .2) (omega (arith, d .2, f)),
+    )
 
 pub returns : need.returns
 returns c = record {

@@ -9,6 +9,6 @@ returns-in-Break-x c = rw (c .from-residual .ensures) (λ n y h. uncut 32 (c .ar
 pub returns-in-Break-n : need.returns-in-Break-n
 returns-in-Break-n c = rw (c .from-residual-in-Break-n .ensures)
     (λ n y h.
-      let f = c .in-Continue-x .ensures tt in
-      let same = cut-once 32 (h .0) y _ _ (no-blank (h .0) (h .1 .digits)) (f .0) (sym (h .2) ∙ f .1) in
-      c .in-Break-n .ensures tt n (subst (Decimal (c .args .top) n) (same .0) (h .1)))
+    let f = c .in-Continue-x .ensures tt in
+    let same = cut-once 32 (h .0) y _ _ (no-blank (h .0) (h .1 .digits)) (f .0) (sym (h .2) ∙ f .1) in
+    c .in-Break-n .ensures tt n (subst (Decimal (c .args .top) n) (same .0) (h .1)))

@@ -10,11 +10,11 @@ returns-in-Break-l c = rw (c .from-residual .ensures) (λ a b d h. c .in-Break-l
 pub returns-in-Break-u : need.returns-in-Break-u
 returns-in-Break-u c = rw (c .from-residual-in-Break-u .ensures)
     (λ a b d h.
-      let t = then-rest _ top-epoch top-epoch _ a _ (Then top-epoch b (Decimal most-places d)) (c .in-Continue-l .ensures tt) h in
-      c .in-Break-u .ensures tt b (t .0) (t .1))
+    let t = then-rest _ top-epoch top-epoch _ a _ (Then top-epoch b (Decimal most-places d)) (c .in-Continue-l .ensures tt) h in
+    c .in-Break-u .ensures tt b (t .0) (t .1))
 
 pub returns-in-Break-k : need.returns-in-Break-k
 returns-in-Break-k c = rw (c .from-residual-in-Break-k .ensures)
     (λ a b d h.
-      let t = then-rest _ top-epoch top-epoch _ a _ (Then top-epoch b (Decimal most-places d)) (c .in-Continue-l .ensures tt) h in
-      c .in-Break-k .ensures tt d (then-rest _ top-epoch top-epoch _ b _ (Decimal most-places d) (c .in-Continue-u .ensures tt) t))
+    let t = then-rest _ top-epoch top-epoch _ a _ (Then top-epoch b (Decimal most-places d)) (c .in-Continue-l .ensures tt) h in
+    c .in-Break-k .ensures tt d (then-rest _ top-epoch top-epoch _ b _ (Decimal most-places d) (c .in-Continue-u .ensures tt) t))

@@ -10,11 +10,11 @@ returns-in-Break-e c = rw (c .from-residual .ensures) (λ a b d h. c .in-Break-e
 pub returns-in-Break-n : need.returns-in-Break-n
 returns-in-Break-n c = rw (c .from-residual-in-Break-n .ensures)
     (λ a b d h.
-      let t = then-rest _ top-epoch top-epoch _ a _ (Then top-number b (Pattern d)) (c .in-Continue-e .ensures tt) h in
-      c .in-Break-n .ensures tt b (t .0) (t .1))
+    let t = then-rest _ top-epoch top-epoch _ a _ (Then top-number b (Pattern d)) (c .in-Continue-e .ensures tt) h in
+    c .in-Break-n .ensures tt b (t .0) (t .1))
 
 pub returns-in-Break-p : need.returns-in-Break-p
 returns-in-Break-p c = rw (c .from-residual-in-Break-p .ensures)
     (λ a b d h.
-      let t = then-rest _ top-epoch top-epoch _ a _ (Then top-number b (Pattern d)) (c .in-Continue-e .ensures tt) h in
-      c .in-Break-p .ensures tt d (then-rest _ top-number top-number _ b _ (Pattern d) (c .in-Continue-n .ensures tt) t))
+    let t = then-rest _ top-epoch top-epoch _ a _ (Then top-number b (Pattern d)) (c .in-Continue-e .ensures tt) h in
+    c .in-Break-p .ensures tt d (then-rest _ top-number top-number _ b _ (Pattern d) (c .in-Continue-n .ensures tt) t))

@@ -14,21 +14,27 @@ pub loop-rest-again-then-n-rest : need.loop-rest-again-then-n-rest
 loop-rest-again-then-n-rest c =
     let inv = c .loop-rest .inv .0 in
     let r = c .in-Continue-reply .ensures tt in
-    let len = c .line-len-n .ensures in
-    ((inv .0 ++ r .0,
-      two-puts (vec-items (c .args .out .now)) _ _ (inv .0) (r .0) (inv .1) (r .2),
-      λ os h. next-line _ (c .loop-rest .rest .now) (inv .0) (r .0) _ _ (c .line-len-n .result) (len .before) (r .1) (inv .2) os (c .if-n-rest .taken) (len .found (c .if-n-rest .taken)) h),
-     simp (length-take, length-drop) (omega (arith, c .loop-rest .inv .1)))
+    let len = c .line-len-n .ensures in (
+      (
+        inv .0 ++ r .0,
+        two-puts (vec-items (c .args .out .now)) _ _ (inv .0) (r .0) (inv .1) (r .2),
+        λ os h. next-line _ (c .loop-rest .rest .now) (inv .0) (r .0) _ _ (c .line-len-n .result) (len .before) (r .1) (inv .2) os (c .if-n-rest .taken) (len .found (c .if-n-rest .taken)) h,
+      ),
+      simp (length-take, length-drop) (omega (arith, c .loop-rest .inv .1)),
+    )
 
 pub loop-rest-again : need.loop-rest-again
 loop-rest-again c =
     let inv = c .loop-rest .inv .0 in
     let r = c .in-Continue-reply .ensures tt in
-    let len = c .line-len-n .ensures in
-    ((inv .0 ++ r .0,
-      two-puts (vec-items (c .args .out .now)) _ _ (inv .0) (r .0) (inv .1) (r .2),
-      λ os h. last-line _ (c .loop-rest .rest .now) (inv .0) (r .0) _ _ (c .line-len-n .result) (len .before) (r .1) (inv .2) os (c .loop-rest-test .taken) (c .if-n-rest .left) h),
-     simp (length-take, length-drop) (omega (arith, c .loop-rest .inv .1)))
+    let len = c .line-len-n .ensures in (
+      (
+        inv .0 ++ r .0,
+        two-puts (vec-items (c .args .out .now)) _ _ (inv .0) (r .0) (inv .1) (r .2),
+        λ os h. last-line _ (c .loop-rest .rest .now) (inv .0) (r .0) _ _ (c .line-len-n .result) (len .before) (r .1) (inv .2) os (c .loop-rest-test .taken) (c .if-n-rest .left) h,
+      ),
+      simp (length-take, length-drop) (omega (arith, c .loop-rest .inv .1)),
+    )
 
 pub returns : need.returns
 returns c =

@@ -23,10 +23,11 @@ pub loop-i-again : need.loop-i-again
 loop-i-again c =
     let ps = c .args .points .now in
     let lt = c .loop-i-test .taken in
-    let e = sym (c .if-is-eq .ensures tt ∙ ap isEq (c .key-order .ensures)) in
-    (weight-pass ps (c .loop-i .i) _ lt (c .args .key) e (c .loop-i .inv .0),
-     remove-pass ps (c .loop-i .i) _ lt (c .args .key) e (c .loop-i .inv .1),
-     λ w. reweigh-pass ps (c .loop-i .i) _ lt (c .args .key) w e (c .loop-i .inv .2 w))
+    let e = sym (c .if-is-eq .ensures tt ∙ ap isEq (c .key-order .ensures)) in (
+      weight-pass ps (c .loop-i .i) _ lt (c .args .key) e (c .loop-i .inv .0),
+      remove-pass ps (c .loop-i .i) _ lt (c .args .key) e (c .loop-i .inv .1),
+      λ w. reweigh-pass ps (c .loop-i .i) _ lt (c .args .key) w e (c .loop-i .inv .2 w),
+    )
 
 pub returns : need.returns
 returns c = ap isSome (c .loop-i .inv .0 ∙ at-drop-all (weightAt small (c .args .key)) (c .args .points .now) (c .loop-i .i) (c .loop-i-test .left))
