@@ -1,0 +1,9 @@
+pub mod Groups
+pub mod Rows
+pub mod Overs
+pub mod Steps
+pub mod Parents
+pub mod Carries
+pub mod Leaves
+pub mod Levels
+pub mod Whole

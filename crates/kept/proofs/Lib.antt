@@ -1,0 +1,16 @@
+pub mod Ranks
+pub mod Sums
+pub mod Risings
+pub mod Puts
+pub mod Onlys
+pub mod Picks
+pub mod Pushes
+pub mod Bests
+pub mod Pulls
+pub mod Onces
+pub mod Takes
+pub mod Weighs
+pub mod Apart
+pub mod Tells
+pub mod Backs
+pub mod Stays

@@ -1,0 +1,11 @@
+pub mod Counts
+pub mod Forks
+pub mod Grows
+pub mod Mends
+pub mod Shrinks
+pub mod Seats
+pub mod Lists
+pub mod Adds
+pub mod Drops
+pub mod Changes
+pub mod Wholes

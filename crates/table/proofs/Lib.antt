@@ -1,0 +1,4 @@
+pub mod Cases
+pub mod Places
+pub mod Frames
+pub mod Steps

@@ -1,0 +1,5 @@
+pub mod Picks
+pub mod Heights
+pub mod Pulls
+pub mod Pushes
+pub mod Settles

@@ -1,0 +1,5 @@
+pub mod Tree
+pub mod Rules
+pub mod Kept
+pub mod Moves
+pub mod Heap
