@@ -7,7 +7,7 @@ use lib.ListN.{length, getD, take, drop, length-append}
 use Rattle.std.specs.shelf.Lists.{All}
 use Rattle.std.proofs.shelf.Lists.{take-append-drop, drop-more, take-rest, getD-at}
 use Rattle.std.proofs.shelf.Elements.{all-getD}
-use Rattle.lines.specs.Digits.{Ten, Decimal}
+use Rattle.lines.specs.Digits.{Ten}
 use Rattle.lines.specs.Grammar.{Head, Then}
 
 -- the byte b does not stand in x

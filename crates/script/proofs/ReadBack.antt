@@ -1,15 +1,15 @@
 -- A pattern that is printed is read back.
-use mathlib.Core.Path.{_≡_, refl, sym, ap, _∙_}
+use mathlib.Core.Path.{_≡_, refl}
 use mathlib.Core.List.{List, [], _∷_, _++_}
 use Prim.Native.Nat.{ℕ, zero, suc, _+_, _*_, _/_, _%_, _^_, _<_}
 use native.Mathlib.Nat.{pow-suc}
 use native.Mathlib.Omega.{arith}
 use borrow.Author.Needs.{needs}
-use lib.ListN.{length, length-append}
+use lib.ListN.{length}
 use Rattle.std.specs.shelf.Lists.{All}
 use Rattle.std.proofs.shelf.Elements.{all-push}
 use Rattle.std.proofs.shelf.Lists.{length-push}
-use Rattle.lines.specs.Digits.{Hex, digit, writes, Pattern}
+use Rattle.lines.specs.Digits.{Hex, digit, writes}
 use Rattle.script.specs.Text.{hexByte, hexText, ReadsBack}
 
 hex-digit : (d : ℕ) → d < 16 → Hex (hexByte d) × (digit (hexByte d) ≡ d)

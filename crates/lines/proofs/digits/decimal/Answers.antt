@@ -1,13 +1,13 @@
 use borrow.Author.Needs.{needs}
 use native.Mathlib.Omega.{arith}
-use mathlib.Core.Path.{_≡_, refl, sym, ap, subst, _∙_}
-use Prim.Native.Nat.{_≤_, _<_, _+_, _*_, _-_}
-use lib.ListN.{length, getD, take, drop}
+use mathlib.Core.Path.{refl, sym, subst, _∙_}
+use Prim.Native.Nat.{_+_, _*_, _-_}
+use lib.ListN.{getD, drop}
 use lib.Seq.{take-all}
 use Rattle.std.specs.shelf.Lists.{All}
-use Rattle.std.proofs.shelf.Lists.{at-drop-more, at-drop-all}
+use Rattle.std.proofs.shelf.Lists.{at-drop-all}
 use Rattle.std.proofs.shelf.Elements.{all-getD, all-more}
-use Rattle.lines.specs.Digits.{Ten, Hex, digit, writes, Decimal, Pattern}
+use Rattle.lines.specs.Digits.{Ten, writes}
 use Rattle.lines.proofs.Writing.{writes-ge, writes-next}
 use Rattle.lines.proofs.digits.decimal.Needs as need
 use Rattle.lines.proofs.digits.decimal.Needs.{then-b-lt48·by·then-b-lt48, then-b-lt48·by·else-b-lt48·then-b-gt57}

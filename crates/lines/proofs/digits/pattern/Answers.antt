@@ -1,12 +1,12 @@
 use borrow.Author.Needs.{needs}
 use native.Mathlib.Omega.{arith}
-use mathlib.Core.Path.{_≡_, refl, sym, ap, subst, _∙_}
-use lib.ListN.{length, getD, take, drop}
+use mathlib.Core.Path.{_≡_, sym, subst, _∙_}
+use lib.ListN.{length}
 use lib.Seq.{take-all}
 use Rattle.std.specs.shelf.Lists.{All}
 use Rattle.std.proofs.shelf.Lists.{at-drop-all}
 use Rattle.std.proofs.shelf.Elements.{all-getD, all-more}
-use Rattle.lines.specs.Digits.{Hex, digit, writes, Pattern}
+use Rattle.lines.specs.Digits.{Hex, writes}
 use Rattle.lines.proofs.Writing.{hex-next, hex-room, hex-more}
 use Rattle.lines.proofs.digits.pattern.Needs as need
 

@@ -1,5 +1,5 @@
 use native.Mathlib.Omega.{arith}
-use mathlib.Core.Path.{_≡_, sym, ap, subst, _∙_}
+use mathlib.Core.Path.{sym, subst}
 use mathlib.Core.List.{[], _++_, append-nil}
 use lib.ListN.{length-take, length-drop}
 use Rattle.std.specs.Of.Vec.{vec-items}

@@ -1,4 +1,4 @@
-use mathlib.Core.Path.{_≡_, sym, ap, _∙_}
+use mathlib.Core.Path.{sym, ap, _∙_}
 use Rattle.std.specs.Options.{isSome}
 use Rattle.std.specs.Orderings.{isEq}
 use Rattle.std.proofs.shelf.Lists.{at-drop-all}

@@ -1,11 +1,6 @@
-use mathlib.Core.Path.{_≡_, sym, ap, subst, _∙_}
-use mathlib.Core.List.{_++_}
-use lib.ListN.{take, drop, length}
+use mathlib.Core.Path.{sym, ap, _∙_}
 use native.Mathlib.Omega.{arith}
 use Rattle.std.specs.Orderings.{isLt}
-use Rattle.std.proofs.shelf.Lists.{drop-all}
-use Rattle.kinds.specs.Kinds.{small}
-use Rattle.plain.specs.Set.{put}
 use Rattle.store.proofs.Scans.{put-pass, put-stop, put-end}
 use Rattle.store.proofs.place.place.Needs as need
 
