@@ -47,3 +47,35 @@ module _ {C R : Type 0} (ns : List (Node C R)) where
       go : (k : ℕ) → 0 < k → All P (chain ns k (f .head) ++ row (length ns - f .fresh) (f .fresh)) → P (f .head)
       go zero h a = absurd (omega arith)
       go (suc k) h a = a .0
+
+-- ---- tables that agree at the free places have the same
+module _ {C R : Type 0} (a b : List (Node C R)) where
+  pub chain-same : (k p : ℕ) → All (λ q. nth b q ≡ nth a q) (chain a k p) → chain b k p ≡ chain a k p
+  chain-same zero p s = refl
+  chain-same (suc k) p s =
+      ap (λ (q : ℕ). p ∷ chain b k q) (ap linkOf (s .0)) ∙ ap (λ l. p ∷ l) (chain-same k (linkOf (nth a p)) (s .1))
+
+  left : {X : Type 0} (P : X → Type 0) (xs ys : List X) → All P (xs ++ ys) → All P xs
+  left P [] ys h = tt
+  left P (x ∷ xs) ys h = (h .0, left P xs ys (h .1))
+
+  pub spares-same : (f : Free) → length b ≡ length a → All (λ q. nth b q ≡ nth a q) (spares a f) → spares b f ≡ spares a f
+  spares-same f len s =
+      ap (λ l. l ++ row (length b - f .fresh) (f .fresh)) (chain-same (f .chained) (f .head) (left (λ q. nth b q ≡ nth a q) (chain a (f .chained) (f .head)) _ s))
+      ∙ ap (λ n. chain a (f .chained) (f .head) ++ row (n - f .fresh) (f .fresh)) len
+
+  pub chained-few : (f : Free) → f .chained ≤ length (spares a f)
+  chained-few f = omega (arith, length-append (chain a (f .chained) (f .head)) (row (length a - f .fresh) (f .fresh)), length-chain (f .chained) (f .head))
+    where
+      length-chain : (k p : ℕ) → length (chain a k p) ≡ k
+      length-chain zero p = refl
+      length-chain (suc k) p = ap suc (length-chain k (linkOf (nth a p)))
+
+  -- a place given back heads the chain
+  pub give-chained : (f : Free) (p : ℕ) (n : Node C R) → length b ≡ length a → nth b p ≡ Some n → n .children .first ≡ f .head → All (λ q. nth b q ≡ nth a q) (spares a f)
+      → spares b (record { head = p; chained = f .chained + 1; fresh = f .fresh }) ≡ p ∷ spares a f
+  give-chained f p n len is link s =
+      let one : f .chained + 1 ≡ suc (f .chained) = omega arith in
+      ap (λ k. chain b k p ++ row (length b - f .fresh) (f .fresh)) one
+      ∙ ap (λ (q : ℕ). p ∷ (chain b (f .chained) q ++ row (length b - f .fresh) (f .fresh))) (ap linkOf is ∙ link)
+      ∙ ap (λ l. p ∷ l) (spares-same f len s)

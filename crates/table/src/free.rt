@@ -43,4 +43,25 @@ impl Free {
         self.fresh += 1;
         p
     }
+
+    // Gives a place back: it is the next to be taken.
+    pub fn give<C: Copy, R: Copy>(&mut self, nodes: &mut [Node<C, R>], p: u16)
+        requires within { ⌜ p < length (now nodes) ⌝ }
+        requires apart { ⌜ All (λ q. q ≡ p → ⊥) (spares (now nodes) (now self)) ⌝ }
+        requires room { ⌜ length (spares (now nodes) (now self)) < 65535 ⌝ }
+        ensures spares { λ _. ⌜ spares (now (nodes .exit)) (now (self .exit)) ≡ p ∷ spares (now (nodes .entry)) (now (self .entry)) ⌝ }
+        ensures frame { λ _. ⌜ ((q : ℕ) → (q ≡ p → ⊥) → nth (now (nodes .exit)) q ≡ nth (now (nodes .entry)) q) ⌝ }
+    {
+        let node = linked(read(nodes, p), self.head);
+        write(nodes, p, node);
+        self.head = p;
+        self.chained += 1;
+    }
+}
+
+// A free node, with the place of the next.
+fn linked<C: Copy, R: Copy>(node: Node<C, R>, link: u16) -> Node<C, R>
+    ensures { λ r. ⌜ r .children .first ≡ link ⌝ }
+{
+    Node { own: node.own, kept: node.kept, children: Children::none(link), keeps: false }
 }

@@ -2,4 +2,5 @@
 // holds.
 pub mod children;
 pub mod free;
+pub mod header;
 pub mod node;

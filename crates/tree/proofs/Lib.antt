@@ -3,3 +3,4 @@ pub mod Heights
 pub mod Pulls
 pub mod Pushes
 pub mod Settles
+pub mod Spared

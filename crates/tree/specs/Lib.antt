@@ -1,3 +1,4 @@
 pub mod Places
 pub mod Nodes
 pub mod Forests
+pub mod Standing

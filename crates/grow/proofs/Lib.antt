@@ -1,0 +1,5 @@
+pub mod Leaves
+pub mod Forked
+pub mod Splits
+pub mod Halved
+pub mod Overflows
