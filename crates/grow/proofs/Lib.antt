@@ -3,3 +3,5 @@ pub mod Forked
 pub mod Splits
 pub mod Halved
 pub mod Overflows
+pub mod Plants
+pub mod Stands

@@ -26,12 +26,12 @@ module _ {C W R : Type 0} (m : Meaning C W R) where
   pub settled-uses : (H p : ℕ) (k : Key C) (ts : Forest C W) (z : ℕ) → uses (settled m H p k ts) z ≡ hit p z + usesAll ts z
   settled-uses H p k ts z = alike-uses (settled m H p k ts) (fork p (firstKey k ts) None ts) (pull-bare m H (fork p (firstKey k ts) None ts)) z
 
-  settled-level : (H p : ℕ) (k : Key C) (n : ℕ) (ts : Forest C W) → 0 < H → Sounds n (H - 1) ts → Level (settled m H p k ts) H
+  pub settled-level : (H p : ℕ) (k : Key C) (n : ℕ) (ts : Forest C W) → 0 < H → Sounds n (H - 1) ts → Level (settled m H p k ts) H
   settled-level H p k n ts pos s =
       alike-level (settled m H p k ts) (fork p (firstKey k ts) None ts) (pull-bare m H (fork p (firstKey k ts) None ts)) H
       (let up : suc (H - 1) ≡ H = omega arith in subst (λ j. Level (fork p (firstKey k ts) None ts) j) up (s .level))
 
-  settled-degrees : (H p : ℕ) (k : Key C) (n : ℕ) (ts : Forest C W) → 0 < count ts → count ts ≤ 4 → Sounds n (H - 1) ts → Degrees (settled m H p k ts) 1 4
+  pub settled-degrees : (H p : ℕ) (k : Key C) (n : ℕ) (ts : Forest C W) → 0 < count ts → count ts ≤ 4 → Sounds n (H - 1) ts → Degrees (settled m H p k ts) 1 4
   settled-degrees H p k n ts some few s =
       alike-degrees (settled m H p k ts) (fork p (firstKey k ts) None ts) (pull-bare m H (fork p (firstKey k ts) None ts)) 1 4 (omega arith, few, s .degrees)
 

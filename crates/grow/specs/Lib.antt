@@ -1,3 +1,4 @@
 pub mod Grown
 pub mod Nodes
 pub mod Split
+pub mod Planted

@@ -2,3 +2,4 @@
 pub mod insert;
 pub mod leaf;
 pub mod split;
+pub mod whole;
