@@ -3,3 +3,4 @@ pub mod Set
 pub mod Windows
 pub mod Refused
 pub mod Laws
+pub mod Examples

@@ -19,3 +19,4 @@ pub use slice::sum_window;
 pub use theorems::orders_hold;
 pub use theorems::set_laws_hold;
 pub use theorems::sums_grow;
+pub use theorems::worked_windows_hold;

@@ -1,4 +1,5 @@
 // Laws that hold for every kind. Each function computes nothing: it is called for its promise.
+ghost use Rattle.plain.specs.Examples.{WorkedWindows};
 ghost use Rattle.plain.specs.Laws.{Orders, SetLaws, SumsGrow};
 use kinds::Kind;
 use kinds::SummedKind;
@@ -20,4 +21,10 @@ pub fn sums_grow<K: SummedKind>()
     ensures { λ _. ⌜ SumsGrow (K·Kind .meaning) number ⌝ }
 {
     K::numbers_hold();
+}
+
+// Some windows, worked by hand, are what the definitions say.
+pub fn worked_windows_hold()
+    ensures { λ _. ⌜ WorkedWindows ⌝ }
+{
 }

@@ -4,3 +4,4 @@ pub mod Pulls
 pub mod Pushes
 pub mod Settles
 pub mod Spared
+pub mod Standings

@@ -2,3 +2,4 @@ pub mod Places
 pub mod Nodes
 pub mod Forests
 pub mod Standing
+pub mod Theorems

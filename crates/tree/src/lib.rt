@@ -2,3 +2,4 @@
 pub mod keep;
 pub mod search;
 pub mod settle;
+pub mod theorems;
