@@ -1,0 +1,3 @@
+pub mod Stands
+pub mod Founds
+pub mod Weighs

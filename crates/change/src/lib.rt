@@ -1,0 +1,3 @@
+// The point of a key: its weight found, and changed.
+pub mod change;
+pub mod find;
