@@ -85,7 +85,7 @@ module _ {C W R : Type 0} (m : Meaning C W R) (a b : List (Node C R)) (n first l
         let xs = laidAt m a n in
         let z : 0 + length xs ≡ n = omega (arith, xs-length) in
         let same : (ts, h, first + left) ≡ levels m n 0 (0 + length xs) k (leavesFrom 0 xs) =
-            ended k ∙ ap (levels m n 0 n k) are ∙ ap (λ j. levels m n 0 j k (leavesFrom 0 xs)) (sym z) in
+        ended k ∙ ap (levels m n 0 n k) are ∙ ap (λ j. levels m n 0 j k (leavesFrom 0 xs)) (sym z) in
         let P : Forest C W × ℕ × ℕ → Type 0 = λ r. Grown m 0 (laidAt m a n) (r .0) (r .1) (r .2) in
         subst P (sym same) (leaves-grown m orders ranks n 0 k xs good (omega (arith, xs-length)))
 

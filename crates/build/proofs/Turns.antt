@@ -141,7 +141,6 @@ module _ {C W R : Type 0} (m : Meaning C W R) where
 
     -- the parent is laid
     module _ (c : List (Node C R)) (len : length c ≡ length b) (H : ℕ) (up : H ≡ suc h) (kids : Children) (is : kids ≡ inRow from g) (laid : Laid m b c H at (kidsOf kids)) where
-
       tree : (k : Key C) → treeAt m c (suc h) at ≡ settled m (suc h) at k fs
       tree k = ap (λ j. treeAt m c j at) (sym up) ∙ laid .tree k ∙ ap (settled m H at k) (same-group H up kids is) ∙ ap (λ j. settled m j at k fs) up
 

@@ -20,7 +20,16 @@ fn header_of(first: u16, left: u16, height: u8, count: u16) -> Header
     requires { ⌜ first + left < 65536 ⌝ }
     ensures { λ r. ⌜ r ≡ headed first left height count ⌝ }
 {
-    Header { root: first, height, count, free: Free { head: 0, chained: 0, fresh: first + left } }
+    Header {
+        root: first,
+        height,
+        count,
+        free: Free {
+            head: 0,
+            chained: 0,
+            fresh: first + left,
+        },
+    }
 }
 
 // Builds a tree over the leaves at the first `count` places; the places after its last node are

@@ -20,7 +20,12 @@ fn leaf_for<C: Copy, R: Copy>(x: Stored<C, R>) -> Node<C, R>
     ensures kept { λ r. ⌜ r .kept ≡ x ⌝ }
     ensures keeps { λ r. ⌜ r .keeps ≡ true ⌝ }
 {
-    Node { own: x, kept: x, children: Children::none(0), keeps: true }
+    Node {
+        own: x,
+        kept: x,
+        children: Children::none(0),
+        keeps: true,
+    }
 }
 
 // Lays a leaf for a point, which keeps it.

@@ -30,7 +30,13 @@ fn in_row(p: u16, n: u8) -> Children
     requires { ⌜ p ≤ most-nodes ⌝ }
     ensures { λ r. ⌜ r ≡ inRow p n ⌝ }
 {
-    Children { first: p, second: p + 1, third: p + 2, fourth: p + 3, count: n }
+    Children {
+        first: p,
+        second: p + 1,
+        third: p + 2,
+        fourth: p + 3,
+        count: n,
+    }
 }
 
 // Lays parents over the `count` trees of a height at the places from `first` on, at the places

@@ -27,9 +27,9 @@ module _ {C W R : Type 0} (m : Meaning C W R) where
       let ys = pointsAll us in
       let good : Good m (xs ++ ys) = subst (Good m) (points-⊕ ts us) (s .good) in
       let l = level-parts ts us h (s .level) in
-      let y = keyed-parts ts us (s .keyed) in
-      ( record { level = l .0; keyed = y .0; good = (rising-left m xs ys (good .0), all-left (FitPoint m) xs ys (good .1)) }
-      , record { level = l .1; keyed = y .1; good = (rising-right m xs ys (good .0), all-right (FitPoint m) xs ys (good .1)) }
+      let y = keyed-parts ts us (s .keyed) in (
+        record { level = l .0; keyed = y .0; good = (rising-left m xs ys (good .0), all-left (FitPoint m) xs ys (good .1)) },
+        record { level = l .1; keyed = y .1; good = (rising-right m xs ys (good .0), all-right (FitPoint m) xs ys (good .1)) },
       )
 
   -- parents over trees in key order are in key order

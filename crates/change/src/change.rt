@@ -22,7 +22,11 @@ use tree::keep::weigh;
 fn stored<C: Copy, R: Copy>(key: Key<C>, weight: R) -> Stored<C, R>
     ensures { λ r. ⌜ r ≡ record { at = key .at; number = key .number; weight = weight } ⌝ }
 {
-    Stored { at: key.at, number: key.number, weight }
+    Stored {
+        at: key.at,
+        number: key.number,
+        weight,
+    }
 }
 
 // In the tree at a place: the point of a key is taken out, its leaf gets the weight, and it is

@@ -70,10 +70,10 @@ module _ {C W R : Type 0} (m : Meaning C W R) where
         pub both : (k : Key C) → grow (treeAt m d H) (p ∷ q ∷ []) ≡ pairOver m a H p q k ls rs
         both k =
             let first : treeAt m d H p ≡ settled m H p k lefts =
-                same-tree m b d H p (λ z u.
-                let v : 0 < hit p z + usesAll lefts z = subst (λ y. 0 < y) (ap (λ t. uses t z) (laid .tree k) ∙ settled-uses H p k lefts z) u in
-                laid′ .frame z (omega (arith, one z)) (ap (λ ts. usesAll ts z) rights-same ∙ omega (arith, one z)))
-                ∙ laid .tree k in
+            same-tree m b d H p (λ z u.
+            let v : 0 < hit p z + usesAll lefts z = subst (λ y. 0 < y) (ap (λ t. uses t z) (laid .tree k) ∙ settled-uses H p k lefts z) u in
+            laid′ .frame z (omega (arith, one z)) (ap (λ ts. usesAll ts z) rights-same ∙ omega (arith, one z)))
+            ∙ laid .tree k in
             let second : treeAt m d H q ≡ settled m H q k rights = laid′ .tree k ∙ ap (settled m H q k) rights-same in
             ap (λ t. more t (more (treeAt m d H q) none)) first ∙ ap (λ t. more (settled m H p k lefts) (more t none)) second
 
@@ -82,8 +82,10 @@ module _ {C W R : Type 0} (m : Meaning C W R) where
             subst (Sounds (length d) H) (sym (both k))
             (record {
               level = (settled-level H p k (length a) lefts (pre .above) (pre .left), (settled-level H q k (length a) rights (pre .above) (pre .right), tt));
-              degrees = (settled-degrees H p k (length a) lefts (omega (arith, pre .left-some, count-grow (treeAt m a (H - 1)) ls)) (omega (arith, pre .left-few, count-grow (treeAt m a (H - 1)) ls)) (pre .left),
-                  (settled-degrees H q k (length a) rights (omega (arith, pre .right-some, count-grow (treeAt m a (H - 1)) rs)) (omega (arith, pre .right-few, count-grow (treeAt m a (H - 1)) rs)) (pre .right), tt));
+              degrees = (
+                settled-degrees H p k (length a) lefts (omega (arith, pre .left-some, count-grow (treeAt m a (H - 1)) ls)) (omega (arith, pre .left-few, count-grow (treeAt m a (H - 1)) ls)) (pre .left),
+                (settled-degrees H q k (length a) rights (omega (arith, pre .right-some, count-grow (treeAt m a (H - 1)) rs)) (omega (arith, pre .right-few, count-grow (treeAt m a (H - 1)) rs)) (pre .right), tt),
+              );
               apart = λ z. subst (λ n. uses (settled m H p k lefts) z + (uses (settled m H q k rights) z + 0) ≤ inside n z) (sym (len′ ∙ len)) (omega (arith, settled-uses H p k lefts z, settled-uses H q k rights z, pre .each z));
             })
 

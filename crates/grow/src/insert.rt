@@ -24,7 +24,12 @@ use tree::search::pick_child;
 fn renew<C: Copy, R: Copy>(node: Node<C, R>, first: Node<C, R>, children: Children) -> Node<C, R>
     ensures { λ r. ⌜ r ≡ renewed node first children ⌝ }
 {
-    Node { own: first.own, kept: node.kept, children, keeps: node.keeps }
+    Node {
+        own: first.own,
+        kept: node.kept,
+        children,
+        keeps: node.keeps,
+    }
 }
 
 // Writes a node again over other children, with the key of the first.

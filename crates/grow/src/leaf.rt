@@ -21,7 +21,12 @@ use tree::search::key_of;
 fn new_leaf<C: Copy, R: Copy>(x: Stored<C, R>, children: Children) -> Node<C, R>
     ensures { λ r. ⌜ r ≡ bare x children ⌝ }
 {
-    Node { own: x, kept: x, children, keeps: false }
+    Node {
+        own: x,
+        kept: x,
+        children,
+        keeps: false,
+    }
 }
 
 // Lays a leaf for `x` beside the leaf at a place, and says where the second of the two stands.

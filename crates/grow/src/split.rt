@@ -29,10 +29,16 @@ pub fn halve(children: Children, i: u8, next: u16) -> Halves
 {
     if i < 2 {
         let left = children.front(2).insert(i + 1, next);
-        return Halves { left, right: children.back(2) };
+        return Halves {
+            left,
+            right: children.back(2),
+        };
     }
     let right = children.back(3).insert(i - 2, next);
-    Halves { left: children.front(3), right }
+    Halves {
+        left: children.front(3),
+        right,
+    }
 }
 
 // Lays two nodes over the two parts; what the node kept goes to the half with its leaf.

@@ -38,7 +38,12 @@ pub struct Top {
 fn lone_leaf<C: Copy, R: Copy>(x: Stored<C, R>, children: Children) -> Node<C, R>
     ensures { λ r. ⌜ r ≡ keeping (bare x children) true x ⌝ }
 {
-    Node { own: x, kept: x, children, keeps: true }
+    Node {
+        own: x,
+        kept: x,
+        children,
+        keeps: true,
+    }
 }
 
 // The first point.
@@ -86,7 +91,12 @@ fn raised(old: Header, top: Top, free: Free) -> Header
     requires { ⌜ old .count < 65535 ⌝ }
     ensures { λ r. ⌜ r ≡ headerOf (top .root) (top .height) (suc (old .count)) free ⌝ }
 {
-    Header { root: top.root, height: top.height, count: old.count + 1, free }
+    Header {
+        root: top.root,
+        height: top.height,
+        count: old.count + 1,
+        free,
+    }
 }
 
 // Adds a point: the tree then holds it beside the others, and keeps it.
@@ -107,7 +117,10 @@ pub fn insert<K: Kind>(
         *header = raised(old, top, free);
         return;
     }
-    let top = Top { root: old.root, height: old.height };
+    let top = Top {
+        root: old.root,
+        height: old.height,
+    };
     let above = extend::<K>(nodes, &mut free, top, x);
     *header = raised(old, above, free);
 }

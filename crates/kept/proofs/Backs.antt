@@ -122,18 +122,18 @@ module _ {C W R : Type 0} (m : Meaning C W R) (first : First m) (second : Second
         let t = fork p k o ts in
         let has = kept-has t on in
         let fits = all-weaker (Has (pointsAll ts)) (FitPoint m) (λ x h. all-has (FitPoint m) (pointsAll ts) x fit h) (listOf o ++ keptAll ts) has in
-        let le = sums-le (kept t) (pointsAll ts) (counts-le (kept t) (pointsAll ts) (λ z. omega (arith, kept-total (is kc kw z) t, one z)) has) in
-        ( (λ f. omega (arith, le f, kept-total f t))
-        , over-kept o ts (all-left (FitPoint m) (listOf o) (keptAll ts) fits) (all-right (FitPoint m) (listOf o) (keptAll ts) fits) (fill .0) (rk .0)
-        , heap-all ts fit (on .1) (fill .1) (rk .1) (λ z. omega (arith, one z))
+        let le = sums-le (kept t) (pointsAll ts) (counts-le (kept t) (pointsAll ts) (λ z. omega (arith, kept-total (is kc kw z) t, one z)) has) in (
+          (λ f. omega (arith, le f, kept-total f t)),
+          over-kept o ts (all-left (FitPoint m) (listOf o) (keptAll ts) fits) (all-right (FitPoint m) (listOf o) (keptAll ts) fits) (fill .0) (rk .0),
+          heap-all ts fit (on .1) (fill .1) (rk .1) (λ z. omega (arith, one z)),
         )
 
     heap-all : (ts : Forest C W) → AllFit m (pointsAll ts) → OnPathAll ts → FilledAll ts → RankedAll m ts → ((z : Point C W) → tallyAll ts (is kc kw z) ≤ 1) → HeapAll m ts
     heap-all none fit on fill rk one = tt
-    heap-all (more t ts) fit (on, ons) (fill, fills) (rk, rks) one =
-        ( heap-of t (all-left (FitPoint m) (points t) (pointsAll ts) fit) on fill rk (λ z. omega (arith, one z))
-        , heap-all ts (all-right (FitPoint m) (points t) (pointsAll ts) fit) ons fills rks (λ z. omega (arith, one z))
-        )
+    heap-all (more t ts) fit (on, ons) (fill, fills) (rk, rks) one = (
+      heap-of t (all-left (FitPoint m) (points t) (pointsAll ts) fit) on fill rk (λ z. omega (arith, one z)),
+      heap-all ts (all-right (FitPoint m) (points t) (pointsAll ts) fit) ons fills rks (λ z. omega (arith, one z)),
+    )
 
   pub heap-holds : (a b h : ℕ) (t : Tree C W) → Rules m a b h t → Heap m t × Full t
   heap-holds a b h t r =

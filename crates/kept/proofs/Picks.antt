@@ -61,12 +61,12 @@ module _ {C W R : Type 0} (m : Meaning C W R) (first : First m) (second : Second
     where
       step : (j : Key C) → keyOf u ≡ Some j → FirstKey j (pointsAll (more u us)) → Rising m (pointsAll (more u us)) → (b : Bool) → isBefore m k (keyOf u) ≡ b → Sides k (run m k us) (more u us) → Sides k (cond b 0 (suc (run m k us))) (more t (more u us))
       step j e f rr true q ih = (tt, later-all m first k j (pointsAll (more u us)) f rr (lt-less (keyOrder m k j) (sym (ap (isBefore m k) e) ∙ q)))
-      step j e f rr false q ih =
-          ( all-append (λ x. Before m (x .key) k) (points t) (pointsAll (front (run m k us) (more u us)))
+      step j e f rr false q ih = (
+        all-append (λ x. Before m (x .key) k) (points t) (pointsAll (front (run m k us) (more u us)))
             (sooner-all m first k j (points t) (pointsAll (more u us)) f (rising-cross m (points t) (pointsAll (more u us)) r) (sym (ap (isBefore m k) e) ∙ q))
-            (ih .0)
-          , ih .1
-          )
+            (ih .0),
+        ih .1,
+      )
 
   pub pick-sides : (k : Key C) (h : ℕ) (ts : Forest C W) → SortedAll m h ts → Sides k (pick m k ts) ts
   pick-sides k h none s = (tt, tt)
@@ -87,13 +87,13 @@ module _ {C W R : Type 0} (m : Meaning C W R) (first : First m) (second : Second
       let g = only m k f in
       let (a, b) = pick-sides k h (more t ts) s in
       let e : total g (pointsAll (more t ts)) ≡ total g (pointsAll us ++ (points c ++ pointsAll vs)) = ap (total g) (parts i (more t ts) (pick-inside k t ts)) in
-      omega
-      ( arith
-      , e
-      , total-++ g (pointsAll us) (points c ++ pointsAll vs)
-      , total-++ g (points c) (pointsAll vs)
-      , total-none g (λ x. Before m (x .key) k) (only-soon m k f first) (pointsAll us) a
-      , total-none g (λ x. Before m k (x .key)) (only-late m k f first) (pointsAll vs) b
+      omega (
+        arith,
+        e,
+        total-++ g (pointsAll us) (points c ++ pointsAll vs),
+        total-++ g (points c) (pointsAll vs),
+        total-none g (λ x. Before m (x .key) k) (only-soon m k f first) (pointsAll us) a,
+        total-none g (λ x. Before m k (x .key)) (only-late m k f first) (pointsAll vs) b,
       )
 
   -- ---- look-ups

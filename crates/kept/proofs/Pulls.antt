@@ -40,9 +40,9 @@ module _ {C W R : Type 0} (m : Meaning C W R) (first : First m) (second : Second
           let j = ih c (put-sorted m put h s) (heap-below m c (put-heap-of m put hs)) in
           let root : (f : Point C W → ℕ) → tally c f ≡ f x + below c f = λ f. root-held c f ∙ ap (λ (a : Option (Point C W)). held f a + below c f) e in
           let now : (f : Point C W → ℕ) → f x + tallyAll (alter i (pull m h) ts) f ≡ tallyAll ts f = λ f. omega (arith, put-tally put f, j .1 f, root f) in
-          let same : pointsAll (alter i (pull m h) ts) ≡ pointsAll ts = alter-points i (pull m h) ts (pull-points m h) in
-          ( ((λ f. rw same (omega (arith, now f, among-all m ts hs f))), omega (arith, now (over m (Some x)), ov), put-heap m put hs (j .0))
-          , now
+          let same : pointsAll (alter i (pull m h) ts) ≡ pointsAll ts = alter-points i (pull m h) ts (pull-points m h) in (
+            ((λ f. rw same (omega (arith, now f, among-all m ts hs f))), omega (arith, now (over m (Some x)), ov), put-heap m put hs (j .0)),
+            now,
           )
 
   pub pull-heap : (h : ℕ) (t : Tree C W) → Sorted m h t → HeapBelow m t → Heap m (pull m h t) × ((f : Point C W → ℕ) → tally (pull m h t) f ≡ below t f)

@@ -34,15 +34,15 @@ module _ {C W R : Type 0} (m : Meaning C W R) (first : First m) (second : Second
       let put = put-alter i (λ (u : Tree C W). u) (more t ts) (pick-inside m first second (x .key) t ts) in
       let g = only m (x .key) f in
       let r = rest m (x .key) f in
-      omega
-      ( arith
-      , tally-split f g r (parted m (x .key) f) c
-      , total-split f g r (parted m (x .key) f) (points c)
-      , only-self m first x f
-      , pick-total m first second (x .key) f h (more t ts) s
-      , room g
-      , put-less put g
-      , among m c (put-heap-of m put hs) r
+      omega (
+        arith,
+        tally-split f g r (parted m (x .key) f) c,
+        total-split f g r (parted m (x .key) f) (points c),
+        only-self m first x f,
+        pick-total m first second (x .key) f h (more t ts) s,
+        room g,
+        put-less put g,
+        among m c (put-heap-of m put hs) r,
       )
 
   -- x has joined the points kept
@@ -69,13 +69,14 @@ module _ {C W R : Type 0} (m : Meaning C W R) (first : First m) (second : Second
 
   -- so does a fork that keeps none, since there is none below it
   at-empty : (p : ℕ) (k : Key C) (x : Point C W) (ts : Forest C W) → Heap m (fork p k None ts) → Room x (fork p k None ts) → Joined x (fork p k None ts) (fork p k (Some x) ts)
-  at-empty p k x ts (am, ov, hs) room =
-      ( ( (λ f. omega (arith, room f))
-        , tallies-zero (over m None) (over m None) (over m (Some x)) (λ y _ o. absurd (omega (arith, o))) ts ov ov
-        , hs
-        )
-      , λ f. omega arith
-      )
+  at-empty p k x ts (am, ov, hs) room = (
+    (
+      (λ f. omega (arith, room f)),
+      tallies-zero (over m None) (over m None) (over m (Some x)) (λ y _ o. absurd (omega (arith, o))) ts ov ov,
+      hs,
+    ),
+    λ f. omega arith,
+  )
 
   -- of x and the point y that a fork keeps, a stays and b goes on
   at-fork : (p : ℕ) (k : Key C) (x y a b : Point C W) (ts us : Forest C W) → ((f : Point C W → ℕ) → f a + f b ≡ f x + f y) →
@@ -91,9 +92,9 @@ module _ {C W R : Type 0} (m : Meaning C W R) (first : First m) (second : Second
       let j = seat (λ f. omega (arith, room f, ex f)) in
       let o = over m (Some a) in
       let on : tallyAll ts o ≡ 0 = tallies-zero u (over m (Some y)) o (λ z fz w. stays z (rk .1 z (fits m z fz) (no-rank (isLt (rankOrder m z y)) w))) ts ft ov in
-      let ob : o b ≡ 0 = stays b (rk .0) in
-      ( ((λ f. rw e (omega (arith, j .1 f, ex f, room f))), omega (arith, j .1 o), j .0)
-      , λ f. omega (arith, j .1 f, ex f)
+      let ob : o b ≡ 0 = stays b (rk .0) in (
+        ((λ f. rw e (omega (arith, j .1 f, ex f, room f))), omega (arith, j .1 o), j .0),
+        λ f. omega (arith, j .1 f, ex f),
       )
     where
       stays : (z : Point C W) → isLt (rankOrder m z a) ≡ false → over m (Some a) z ≡ 0

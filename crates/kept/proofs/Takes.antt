@@ -55,19 +55,19 @@ module _ {C W R : Type 0} (m : Meaning C W R) (first : First m) (second : Second
       let i = pick m k us in
       let c = nthTree i us in
       let put = put-alter i (takeOut m h k) us (pick-inside m first second k t ts) in
-      let kc : KeptIn x c = λ f. omega
-          ( arith
-          , kx (only m k f)
-          , keeps-not k o e f
-          , only-self m first x f
-          , put-focus m put hs (only m k f) (pick-total m first second k f h us s)
-          , tally-split f (only m k f) (rest m k f) (parted m k f) c
-          ) in
+      let kc : KeptIn x c = λ f. omega (
+        arith,
+        kx (only m k f),
+        keeps-not k o e f,
+        only-self m first x f,
+        put-focus m put hs (only m k f) (pick-total m first second k f h us s),
+        tally-split f (only m k f) (rest m k f) (parted m k f) c,
+      ) in
       let l = ih c (put-sorted m put h s) (put-heap-of m put hs) kc in
       let now : (f : Point C W → ℕ) → f x + tallyAll (alter i (takeOut m h k) us) f ≡ tallyAll us f = λ f. omega (arith, put-tally put f, l .1 f) in
-      let same : pointsAll (alter i (takeOut m h k) us) ≡ pointsAll us = alter-points i (takeOut m h k) us (take-points m h k) in
-      ( ((λ f. rw same (omega (arith, now f, am f))), omega (arith, now (over m o)), put-heap m put hs (l .0))
-      , λ f. omega (arith, now f)
+      let same : pointsAll (alter i (takeOut m h k) us) ≡ pointsAll us = alter-points i (takeOut m h k) us (take-points m h k) in (
+        ((λ f. rw same (omega (arith, now f, am f))), omega (arith, now (over m o)), put-heap m put hs (l .0)),
+        λ f. omega (arith, now f),
       )
 
   pub take-heap : (h : ℕ) (x : Point C W) (t : Tree C W) → Sorted m h t → Heap m t → KeptIn x t → Heap m (takeOut m h (x .key) t) × ((f : Point C W → ℕ) → f x + tally (takeOut m h (x .key) t) f ≡ tally t f)

@@ -107,10 +107,10 @@ module _ {C W R : Type 0} (m : Meaning C W R) (first : First m) (second : Second
 
     ranked-all : (ts : Forest C W) → Rising m (pointsAll ts) → AllFit m (pointsAll ts) → HeapAll m ts → RankedAll m ts
     ranked-all none r fit hs = tt
-    ranked-all (more t ts) r fit (hp, hs) =
-        ( ranked-of t (rising-left m (points t) (pointsAll ts) r) (all-left (FitPoint m) (points t) (pointsAll ts) fit) hp
-        , ranked-all ts (rising-right m (points t) (pointsAll ts) r) (all-right (FitPoint m) (points t) (pointsAll ts) fit) hs
-        )
+    ranked-all (more t ts) r fit (hp, hs) = (
+      ranked-of t (rising-left m (points t) (pointsAll ts) r) (all-left (FitPoint m) (points t) (pointsAll ts) fit) hp,
+      ranked-all ts (rising-right m (points t) (pointsAll ts) r) (all-right (FitPoint m) (points t) (pointsAll ts) fit) hs,
+    )
 
   module _ (kc : Coded C) (kw : Coded W) where
     kept-here : (o : Option (Point C W)) (xs : List (Point C W)) → ((f : Point C W → ℕ) → held f o ≤ total f xs) → All (Has xs) (listOf o)

@@ -66,9 +66,9 @@ module _ {C W R : Type 0} (m : Meaning C W R) (first : First m) (second : Second
       let put = put-alter i (weigh m h k w) us (pick-inside m first second k t ts) in
       let l = ih c (put-sorted m put h s) (put-heap-of m put hs) (room-down m first second h x t ts s hs (λ f. omega (arith, room f))) in
       let now : (f : Point C W → ℕ) → tallyAll vs f ≡ tallyAll us f = λ f. omega (arith, put-tally put f, weigh-tally h k w c f) in
-      let sum : (f : Point C W → ℕ) → total f (pointsAll vs) + f x ≡ total f (pointsAll us) + f (weighing x w) = λ f. omega (arith, put-totals put f, l .1 f) in
-      ( ((λ f. omega (arith, now f, room f, sum f)), omega (arith, now (over m o)), put-heap m put hs (l .0))
-      , sum
+      let sum : (f : Point C W → ℕ) → total f (pointsAll vs) + f x ≡ total f (pointsAll us) + f (weighing x w) = λ f. omega (arith, put-totals put f, l .1 f) in (
+        ((λ f. omega (arith, now f, room f, sum f)), omega (arith, now (over m o)), put-heap m put hs (l .0)),
+        sum,
       )
 
   weigh-both : (h : ℕ) (x : Point C W) (w : W) (t : Tree C W) → Sorted m h t → Heap m t → Room x t → Weighed x w t (weigh m h (x .key) w t)

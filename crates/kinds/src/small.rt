@@ -30,7 +30,11 @@ pub impl Kind for Small as SmallKind {
     }
 
     fn is_fit(at: u64, weight: f32) -> bool {
-        Residual { epoch: at, number: 0, weight }.is_fit()
+        Residual {
+            epoch: at,
+            number: 0,
+            weight,
+        }.is_fit()
     }
 
     fn is_threshold(weight: f32) -> bool {

@@ -51,7 +51,7 @@ module _ {X : Type 0} (test : X → Bool) (xs was now : List X) (i n : ℕ) (x :
   pub list-more : test x ≡ true → n < length was → set now n x ≡ kept-by test (take (i + 1) xs) ++ drop (n + 1) was
   list-more e room =
       let place : kept-by test (take i xs) ++ set (drop n was) (n - n) x ≡ kept-by test (take i xs) ++ (x ∷ drop (n + 1) was) =
-          ap (λ k. kept-by test (take i xs) ++ set (drop n was) k x) (omega arith) ∙ ap (λ l. kept-by test (take i xs) ++ set l 0 x) (drop-more was n x room) in
+      ap (λ k. kept-by test (take i xs) ++ set (drop n was) k x) (omega arith) ∙ ap (λ l. kept-by test (take i xs) ++ set l 0 x) (drop-more was n x room) in
       ap (λ l. set l n x) filled ∙ set-append-right (kept-by test (take i xs)) (drop n was) n n x (sym count) (le-refl n) ∙ place
       ∙ sym (append-assoc (kept-by test (take i xs)) (x ∷ []) (drop (n + 1) was)) ∙ ap (λ l. l ++ drop (n + 1) was) (sym (more true e))
 

@@ -7,14 +7,12 @@ use kinds::SummedKind;
 // Key order and rank order are total orders.
 pub fn orders_hold<K: Kind>()
     ensures { λ _. ⌜ Orders (K·Kind .meaning) ⌝ }
-{
-}
+{}
 
 // Changes keep the order, and change what is found at their key alone.
 pub fn set_laws_hold<K: Kind>()
     ensures { λ _. ⌜ SetLaws (K·Kind .meaning) ⌝ }
-{
-}
+{}
 
 // A sum of the keys of another, at weights no smaller, is no smaller.
 pub fn sums_grow<K: SummedKind>()
@@ -26,5 +24,4 @@ pub fn sums_grow<K: SummedKind>()
 // Some windows, worked by hand, are what the definitions say.
 pub fn worked_windows_hold()
     ensures { λ _. ⌜ WorkedWindows ⌝ }
-{
-}
+{}

@@ -88,9 +88,9 @@ module _ {C W R : Type 0} (m : Meaning C W R) (first : First m) (second : Second
       let after : All (λ y. Before m (x .key) (y .key)) (pointsAll r) = subst (λ j. All (λ y. Before m (x .key) (y .key)) (pointsAll (back j ts))) (sym (add-one i)) later in
       let was : pointsAll ts ≡ pointsAll l ++ (points t ++ pointsAll r) = ap pointsAll (sym e) ∙ points-⊕ l (more t r) in
       let now : pointsAll (l ⊕ (us ⊕ r)) ≡ pointsAll l ++ (put m x (points t) ++ pointsAll r) =
-          points-⊕ l (us ⊕ r) ∙ ap (λ v. pointsAll l ++ v) (points-⊕ us r ∙ ap (λ v. v ++ pointsAll r) (a .same)) in
+      points-⊕ l (us ⊕ r) ∙ ap (λ v. pointsAll l ++ v) (points-⊕ us r ∙ ap (λ v. v ++ pointsAll r) (a .same)) in
       let same : pointsAll (l ⊕ (us ⊕ r)) ≡ put m x (pointsAll ts) =
-          now ∙ ap (λ v. pointsAll l ++ v) (sym (put-stop m x (points t) (pointsAll r) after)) ∙ sym (put-skip m first x (pointsAll l) (points t ++ pointsAll r) before) ∙ ap (put m x) (sym was) in
+      now ∙ ap (λ v. pointsAll l ++ v) (sym (put-stop m x (points t) (pointsAll r) after)) ∙ sym (put-skip m first x (pointsAll l) (points t ++ pointsAll r) before) ∙ ap (put m x) (sym was) in
       record {
         sorted = record {
           level = level-⊕ l (us ⊕ r) h (sl .level) (level-⊕ us r h (a .sorted .level) (sr .level));
@@ -157,13 +157,15 @@ module _ {C W R : Type 0} (m : Meaning C W R) (first : First m) (second : Second
   pub with-point-whole : (h : ℕ) (x : Point C W) (qs : List ℕ) (f : Forest C W) → Whole m h f → wants f ≤ length qs → FitPoint m x → stands m (x .key) (pointsAll f) ≡ false
       → Whole m (withPoint m 4 3 h x qs f .1) (withPoint m 4 3 h x qs f .0) × (pointsAll (withPoint m 4 3 h x qs f .0) ≡ put m x (pointsAll f))
   with-point-whole h x [] none w n fit off = absurd (omega arith)
-  with-point-whole h x (q ∷ qs) none w n fit off =
-      (record {
-        holds = with-point-changed m h x (q ∷ qs) none (w .holds) n .0 .holds;
-        good = ((tt, tt), (fit, tt));
-        heap = ((λ f. omega arith), tt);
-        full = λ f. omega arith;
-      }, refl)
+  with-point-whole h x (q ∷ qs) none w n fit off = (
+    record {
+      holds = with-point-changed m h x (q ∷ qs) none (w .holds) n .0 .holds;
+      good = ((tt, tt), (fit, tt));
+      heap = ((λ f. omega arith), tt);
+      full = λ f. omega arith;
+    },
+    refl,
+  )
   with-point-whole h x qs (more t (more u us)) w n fit off = absurd (omega (arith, w .holds .one))
   with-point-whole h x qs (more t none) w n fit off =
       let nil = append-nil (points t) in
@@ -173,10 +175,12 @@ module _ {C W R : Type 0} (m : Meaning C W R) (first : First m) (second : Second
       let g = inserted-grew m 2 4 3 (omega arith) (omega arith) (omega arith) h x qs t (fine .level .0) (fine .degrees .0) (fine .keyed .0) (omega arith) in
       let a = inserted-settles 4 3 (omega arith) (omega arith) h x qs t (omega arith) s (w .heap .0) fit (ap (stands m (x .key)) (sym nil) ∙ off) in
       let r = inserted m 4 3 h x qs t in
-      let c = topped-settles h x (put m x (points t)) (tally t) (r .0) (r .1) a (g .least) (λ f. omega (arith, full f, total-put m f x (points t))) in
-      (record {
-        holds = with-point-changed m h x qs (more t none) (w .holds) n .0 .holds;
-        good = c .sorted .good;
-        heap = c .heap;
-        full = λ f. omega (arith, c .tallied f, full f, total-put m f x (points t), ap (total f) (c .same));
-      }, c .same ∙ ap (put m x) (sym nil))
+      let c = topped-settles h x (put m x (points t)) (tally t) (r .0) (r .1) a (g .least) (λ f. omega (arith, full f, total-put m f x (points t))) in (
+        record {
+          holds = with-point-changed m h x qs (more t none) (w .holds) n .0 .holds;
+          good = c .sorted .good;
+          heap = c .heap;
+          full = λ f. omega (arith, c .tallied f, full f, total-put m f x (points t), ap (total f) (c .same));
+        },
+        c .same ∙ ap (put m x) (sym nil),
+      )

@@ -79,14 +79,16 @@ module _ {C W R : Type 0} (m : Meaning C W R) (first : First m) (second : Second
       } in
       let all : (g : Point C W → ℕ) → g y + tally v g ≡ total g (points v) = λ g. omega (arith, sum g, weighed .1 g, taken .1 g, full g, ap (total g) pu) in
       let done = seated-stays m first second h (Some y) (points v) (tally v) (more v none)
-          (record { sorted = sorted-one m h v sv; heap = (weighed .0, tt); same = append-nil (points v); tallied = λ g. omega arith })
-          (λ g. omega (arith, all g)) in
-      (record {
-        holds = with-weight-changed m h k w [] (more t none) (whole .holds) .holds;
-        good = done .sorted .good;
-        heap = done .heap;
-        full = λ g. omega (arith, done .tallied g, all g, ap (total g) (done .same));
-      }, done .same ∙ same ∙ ap (reweigh m k w) (sym nil))
+      (record { sorted = sorted-one m h v sv; heap = (weighed .0, tt); same = append-nil (points v); tallied = λ g. omega arith })
+      (λ g. omega (arith, all g)) in (
+        record {
+          holds = with-weight-changed m h k w [] (more t none) (whole .holds) .holds;
+          good = done .sorted .good;
+          heap = done .heap;
+          full = λ g. omega (arith, done .tallied g, all g, ap (total g) (done .same));
+        },
+        done .same ∙ same ∙ ap (reweigh m k w) (sym nil),
+      )
 
   pub with-weight-whole : (h : ℕ) (k : Key C) (w : W) (f : Forest C W) → Whole m h f → stands m k (pointsAll f) ≡ true → T (m .fit (k .at) w)
       → Whole m h (withWeight m h k w f) × (pointsAll (withWeight m h k w f) ≡ reweigh m k w (pointsAll f))

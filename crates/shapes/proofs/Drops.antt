@@ -236,7 +236,7 @@ module _ {C W R : Type 0} (m : Meaning C W R) (first : First m) (second : Second
         let shape = removed-shrunk m a b one twice many h (x .key) qs t (ft .level .0) (ft .keyed .0) (omega (arith, c .0)) (c .2) in
         let on : weightAt m (x .key) (points t) ≡ Some (x .weight) = pick-weight m first second (x .key) (suc h) ts st ∙ is in
         let ih = removed-settled h x qs t (sorted-head m (suc h) t r (sorted-right m (suc h) l (more t r) s′)) (hp .1 .0) (omega (arith, c .0)) (c .2) on
-            (room-in (suc h) x ts st hs (omega arith) (λ f. omega (arith, room f))) in
+        (room-in (suc h) x ts st hs (omega arith) (λ f. omega (arith, room f))) in
         let same : pointsAll (l ⊕ more u r) ≡ remove m (x .key) (pointsAll ts) = children-drop (suc h) (x .key) ts (more u none) st (omega arith) (ap isSome is) (append-nil (points u) ∙ ih .same) in
         let tal : (f : Point C W → ℕ) → tallyAll (l ⊕ more u r) f ≡ tallyAll ts f = λ f. omega (arith, tally-⊕ l (more u r) f, tally-⊕ l (more t r) f, ap (λ v. tallyAll v f) e, ih .tallied f) in
         let cs : count ts ≡ count l + suc (count r) = ap count (sym e) ∙ count-⊕ l (more t r) in
@@ -270,13 +270,15 @@ module _ {C W R : Type 0} (m : Meaning C W R) (first : First m) (second : Second
   without-point h x qs none w is = absurd (true≢false (sym (ap isSome is)))
   without-point h x qs (more t (more u us)) w is = absurd (omega (arith, w .holds .one))
   without-point zero x qs (more t none) w is =
-      let nil = append-nil (points t) in
-      (record {
-        holds = without-key-changed m 0 (x .key) qs (more t none) (w .holds) refl .0 .holds;
-        good = (tt, tt);
-        heap = tt;
-        full = λ f. refl;
-      }, sym (ap (remove m (x .key)) nil ∙ leaf-remove (x .key) t (w .holds .fine .level .0) (ap isSome (ap (weightAt m (x .key)) (sym nil) ∙ is))))
+      let nil = append-nil (points t) in (
+        record {
+          holds = without-key-changed m 0 (x .key) qs (more t none) (w .holds) refl .0 .holds;
+          good = (tt, tt);
+          heap = tt;
+          full = λ f. refl;
+        },
+        sym (ap (remove m (x .key)) nil ∙ leaf-remove (x .key) t (w .holds .fine .level .0) (ap isSome (ap (weightAt m (x .key)) (sym nil) ∙ is))),
+      )
   without-point (suc h) x qs (more t none) w is =
       let k = x .key in
       let nil = append-nil (points t) in
@@ -296,13 +298,15 @@ module _ {C W R : Type 0} (m : Meaning C W R) (first : First m) (second : Second
       let r = removed m 2 4 (suc h) k qs u in
       let v = removed-settled 2 4 (omega arith) (omega arith) (omega arith) h x qs u su (taken .0) (d .0) (d .2) (ap (weightAt m k) pu ∙ at) (λ g. omega (arith, taken .1 g, full g, ap (total g) pu)) in
       let same : points (r .0) ≡ remove m k (points t) = v .same ∙ ap (remove m k) pu in
-      let low = lowered-settles h (r .0) (r .1) (record { level = shape .level; keyed = shape .keyed; good = subst (Good m) (sym same) (good-remove k (points t) good) }) (v .heap) in
-      (record {
-        holds = without-key-changed m (suc h) k qs (more t none) (w .holds) refl .0 .holds;
-        good = low .sorted .good;
-        heap = low .heap;
-        full = λ g. omega (arith, low .tallied g, v .tallied g, taken .1 g, full g, cut g, ap (total g) (low .same ∙ same));
-      }, low .same ∙ same ∙ ap (remove m k) (sym nil))
+      let low = lowered-settles h (r .0) (r .1) (record { level = shape .level; keyed = shape .keyed; good = subst (Good m) (sym same) (good-remove k (points t) good) }) (v .heap) in (
+        record {
+          holds = without-key-changed m (suc h) k qs (more t none) (w .holds) refl .0 .holds;
+          good = low .sorted .good;
+          heap = low .heap;
+          full = λ g. omega (arith, low .tallied g, v .tallied g, taken .1 g, full g, cut g, ap (total g) (low .same ∙ same));
+        },
+        low .same ∙ same ∙ ap (remove m k) (sym nil),
+      )
 
   -- the point of a key that stands is no longer kept, and its leaf is gone
   pub without-key-whole : (h : ℕ) (k : Key C) (qs : List ℕ) (f : Forest C W) → Whole m h f → stands m k (pointsAll f) ≡ true

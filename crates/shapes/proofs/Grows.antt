@@ -77,7 +77,7 @@ module _ {C W R : Type 0} (m : Meaning C W R) (a b half : ℕ) (one : 1 ≤ a) (
       let nt : length (pointsAll (more t r)) ≡ length (points t) + length (pointsAll r) = length-append (points t) (pointsAll r) in
       let u : fullAll ts b ≡ fullAll l b + (full t b + fullAll r b) = ap (λ v. fullAll v b) (sym e) ∙ full-⊕ l (more t r) b in
       let d = divided-forked m a b half one low high h p k o new rs (fine-⊕ a b h l (us ⊕ r) fl (fine-⊕ a b h us r (g .fine) fr))
-          (omega (arith, g .least)) (omega (arith, g .most)) (λ lt. omega (arith, g .nodes, g .free, full-bit b (count ts) (omega (arith, g .most)))) in
+      (omega (arith, g .least)) (omega (arith, g .most)) (λ lt. omega (arith, g .nodes, g .free, full-bit b (count ts) (omega (arith, g .most)))) in
       record {
         fine = d .fine;
         least = d .least;
@@ -158,15 +158,18 @@ module _ {C W R : Type 0} (m : Meaning C W R) where
   pub with-point-changed : (h : ℕ) (x : Point C W) (qs : List ℕ) (f : Forest C W) → Holds h f → wants f ≤ length qs
       → Changed f qs (withPoint m 4 3 h x qs f .0) (withPoint m 4 3 h x qs f .1) (withPoint m 4 3 h x qs f .2) × (length (pointsAll (withPoint m 4 3 h x qs f .0)) ≡ suc (length (pointsAll f)))
   with-point-changed h x [] none w n = absurd (omega arith)
-  with-point-changed h x (q ∷ qs) none w n =
-      (record {
-        holds = record { one = omega arith; fine = record { level = (refl, tt); degrees = (tt, tt); keyed = (tt, tt) } };
-        places = λ z. omega arith;
-        free = omega arith;
-      }, refl)
+  with-point-changed h x (q ∷ qs) none w n = (
+    record {
+      holds = record { one = omega arith; fine = record { level = (refl, tt); degrees = (tt, tt); keyed = (tt, tt) } };
+      places = λ z. omega arith;
+      free = omega arith;
+    },
+    refl,
+  )
   with-point-changed h x qs (more t (more u us)) w n = absurd (omega (arith, w .one))
   with-point-changed h x qs (more t none) w n =
       let g = inserted-grew m 2 4 3 (omega arith) (omega arith) (omega arith) h x qs t (w .fine .level .0) (w .fine .degrees .0) (w .fine .keyed .0) (omega arith) in
-      let r = inserted m 4 3 h x qs t in
-      (topped-changed h x (more t none) (r .0) qs (r .1) (g .fine) (g .least) (g .most) (omega (arith, g .nodes, g .free)) (λ q. omega (arith, g .places q)) (omega (arith, g .free)),
-      ap length (topped-points h x (r .0) (r .1)) ∙ g .counted ∙ ap (λ l. suc (length l)) (sym (append-nil (points t))))
+      let r = inserted m 4 3 h x qs t in (
+        topped-changed h x (more t none) (r .0) qs (r .1) (g .fine) (g .least) (g .most) (omega (arith, g .nodes, g .free)) (λ q. omega (arith, g .places q)) (omega (arith, g .free)),
+        ap length (topped-points h x (r .0) (r .1)) ∙ g .counted ∙ ap (λ l. suc (length l)) (sym (append-nil (points t))),
+      )

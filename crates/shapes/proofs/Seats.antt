@@ -95,9 +95,9 @@ module _ {C W R : Type 0} (m : Meaning C W R) (first : First m) (second : Second
       let d = count-parts n ts in
       let same : pointsAll (front n ts) ++ pointsAll (back n ts) ≡ pointsAll ts = sym (points-⊕ (front n ts) (back n ts)) ∙ ap pointsAll e in
       let r = both-stay (suc h) (pointsAll (front n ts)) (pointsAll (back n ts)) (tallyAll (front n ts)) (tallyAll (back n ts)) (more (settled m (suc h) p k (front n ts)) none) (more (settled m (suc h) q k (back n ts)) none)
-          (subst (Good m) (sym same) (s .good))
-          (settled-stays h p k (front n ts) (sorted-left m h (front n ts) (back n ts) s′) (hp′ .0) (omega arith))
-          (settled-stays h q k (back n ts) (sorted-right m h (front n ts) (back n ts) s′) (hp′ .1) (omega arith)) in
+      (subst (Good m) (sym same) (s .good))
+      (settled-stays h p k (front n ts) (sorted-left m h (front n ts) (back n ts) s′) (hp′ .0) (omega arith))
+      (settled-stays h q k (back n ts) (sorted-right m h (front n ts) (back n ts) s′) (hp′ .1) (omega arith)) in
       record {
         sorted = r .sorted;
         heap = r .heap;

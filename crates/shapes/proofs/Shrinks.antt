@@ -270,7 +270,7 @@ module _ {C W R : Type 0} (m : Meaning C W R) (a b : ℕ) (one : 1 ≤ a) (twice
       let n : length (pointsAll ts) ≡ length (pointsAll l) + (length (points t) + length (pointsAll r)) = ap (λ v. length (pointsAll v)) (sym e) ∙ length-⊕ l (more t r) ∙ ap (λ i. length (pointsAll l) + i) (length-append (points t) (pointsAll r)) in
       let n′ : length (pointsAll (l ⊕ more u r)) ≡ length (pointsAll l) + (length (points u) + length (pointsAll r)) = length-⊕ l (more u r) ∙ ap (λ i. length (pointsAll l) + i) (length-append (points u) (pointsAll r)) in
       let v = mended-spliced h p j o i l u r rs at (omega arith) (fine-left a b (suc h) l (more t r) f′) (fine-right a b (suc h) (more t none) r ft)
-          (record { level = s .level; degrees = s .degrees; keyed = s .keyed; most = omega (arith, s .most, d .1) }) (omega (arith, s .least, d .0)) in
+      (record { level = s .level; degrees = s .degrees; keyed = s .keyed; most = omega (arith, s .most, d .1) }) (omega (arith, s .least, d .0)) in
       record {
         level = v .level;
         degrees = v .degrees;
@@ -325,18 +325,22 @@ module _ {C W R : Type 0} (m : Meaning C W R) where
       let z = alike-sizeAll us ts like in
       cond-both {A = Result} (leb 2 (count ts)) (more (fork p j o ts) none, suc h, rs) (us, suc h - 1, p ∷ rs)
       (λ r. Changed f qs (r .0) (r .1) (r .2) × (pointsAll (r .0) ≡ pointsAll ts))
-      (λ v.
-      (record {
-        holds = record { one = omega arith; fine = record { level = (l, tt); degrees = ((leb-true 2 (count ts) v, high, fine .degrees), tt); keyed = (k, tt) } };
-        places = λ q. omega (arith, places q);
-        free = omega arith;
-      }, append-nil (pointsAll ts)))
-      (λ v.
-      (record {
-        holds = record { one = omega (arith, leb-false 2 (count ts) v); fine = fs };
-        places = λ q. omega (arith, places q, alike-usesAll us ts like q);
-        free = omega arith;
-      }, seated-points m (suc h - 1) o ts))
+      (λ v. (
+        record {
+          holds = record { one = omega arith; fine = record { level = (l, tt); degrees = ((leb-true 2 (count ts) v, high, fine .degrees), tt); keyed = (k, tt) } };
+          places = λ q. omega (arith, places q);
+          free = omega arith;
+        },
+        append-nil (pointsAll ts),
+      ))
+      (λ v. (
+        record {
+          holds = record { one = omega (arith, leb-false 2 (count ts) v); fine = fs };
+          places = λ q. omega (arith, places q, alike-usesAll us ts like q);
+          free = omega arith;
+        },
+        seated-points m (suc h - 1) o ts,
+      ))
 
   -- there is a tree: from none no leaf can go
   pub without-key-changed : (h : ℕ) (k : Key C) (qs : List ℕ) (f : Forest C W) → Holds h f → count f ≡ 1
@@ -344,12 +348,14 @@ module _ {C W R : Type 0} (m : Meaning C W R) where
   without-key-changed h k qs none w n = absurd (omega arith)
   without-key-changed h k qs (more t (more u us)) w n = absurd (omega arith)
   without-key-changed zero k qs (more t none) w n =
-      let l = w .fine .level .0 in
-      (record {
-        holds = record { one = omega arith; fine = fine-none 2 4 0 };
-        places = λ q. omega (arith, leaf-uses m 2 4 (omega arith) (omega arith) t q l);
-        free = omega (arith, leaf-size m 2 4 (omega arith) (omega arith) t l);
-      }, sym (ap length (append-nil (points t)) ∙ leaf-points m 2 4 (omega arith) (omega arith) t l))
+      let l = w .fine .level .0 in (
+        record {
+          holds = record { one = omega arith; fine = fine-none 2 4 0 };
+          places = λ q. omega (arith, leaf-uses m 2 4 (omega arith) (omega arith) t q l);
+          free = omega (arith, leaf-size m 2 4 (omega arith) (omega arith) t l);
+        },
+        sym (ap length (append-nil (points t)) ∙ leaf-points m 2 4 (omega arith) (omega arith) t l),
+      )
   without-key-changed (suc h) k qs (more t none) w n =
       let u = takeOut m (suc h) k t in
       let like = take-bare m (suc h) k t in
@@ -358,7 +364,7 @@ module _ {C W R : Type 0} (m : Meaning C W R) where
       let s = removed-shrunk m 2 4 (omega arith) (omega arith) (omega arith) h k qs u l (alike-keyed u t like (w .fine .keyed .0)) (d .0) (d .2) in
       let r = removed m 2 4 (suc h) k qs u in
       let c = lowered-changed h (more t none) qs (r .0) (r .1)
-          (record { level = fork-level m 2 4 (omega arith) (omega arith) h (r .0) (s .level); degrees = s .degrees; keyed = fork-keyed m 2 4 (omega arith) (omega arith) h (r .0) (s .level) (s .keyed) })
-          (s .level) (s .keyed) (omega (arith, s .least, d .0)) (omega (arith, s .most, d .1))
-          (λ q. omega (arith, s .places q, alike-uses u t like q)) (omega (arith, s .free, alike-size u t like)) in
+      (record { level = fork-level m 2 4 (omega arith) (omega arith) h (r .0) (s .level); degrees = s .degrees; keyed = fork-keyed m 2 4 (omega arith) (omega arith) h (r .0) (s .level) (s .keyed) })
+      (s .level) (s .keyed) (omega (arith, s .least, d .0)) (omega (arith, s .most, d .1))
+      (λ q. omega (arith, s .places q, alike-uses u t like q)) (omega (arith, s .free, alike-size u t like)) in
       (c .0, ap (λ ps. suc (length ps)) (c .1) ∙ s .counted ∙ ap length (take-points m (suc h) k t) ∙ ap length (sym (append-nil (points t))))

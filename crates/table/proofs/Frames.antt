@@ -118,5 +118,5 @@ module _ {C W R : Type 0} (m : Meaning C W R) where
         grow-append f (take i ps) (placesOf us ++ drop (i + n) ps)
         ∙ ap (λ ts. ts ⊕ grow f (placesOf us ++ drop (i + n) ps)) (same-trees h (take i ps) left ∙ sym (front-grow (treeAt m a h) i ps))
         ∙ ap (λ ts. front i (grow (treeAt m a h) ps) ⊕ ts)
-          (grow-append f (placesOf us) (drop (i + n) ps) ∙ ap (λ ts. ts ⊕ grow f (drop (i + n) ps)) here
-          ∙ ap (λ ts. us ⊕ ts) (same-trees h (drop (i + n) ps) right ∙ sym (back-grow (treeAt m a h) (i + n) ps)))
+        (grow-append f (placesOf us) (drop (i + n) ps) ∙ ap (λ ts. ts ⊕ grow f (drop (i + n) ps)) here
+        ∙ ap (λ ts. us ⊕ ts) (same-trees h (drop (i + n) ps) right ∙ sym (back-grow (treeAt m a h) (i + n) ps)))

@@ -176,9 +176,9 @@ module _ {C W R : Type 0} (m : Meaning C W R) where
             frame = λ q z.
                 let z′ = was-not q z in
                 let child : uses (treeAt m a h (getD (kids n) i 0)) q ≡ 0 =
-                    let t = c q (omega (arith, count-grow (treeAt m a h) (kids n))) in
-                    let e = ap (λ u. uses u q) (nth-grow (treeAt m a h) i (kids n) lt) in
-                    omega (arith, z′ .1) in
+                let t = c q (omega (arith, count-grow (treeAt m a h) (kids n))) in
+                let e = ap (λ u. uses u q) (nth-grow (treeAt m a h) i (kids n) lt) in
+                omega (arith, z′ .1) in
                 other b h at n′ within q (z′ .0) ∙ bec .frame q child;
           }
 

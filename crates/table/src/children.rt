@@ -20,19 +20,37 @@ impl Children {
         ensures kids { λ r. ⌜ kidsOf r ≡ [] ⌝ }
         ensures link { λ r. ⌜ r .first ≡ link ⌝ }
     {
-        Children { first: link, second: 0, third: 0, fourth: 0, count: 0 }
+        Children {
+            first: link,
+            second: 0,
+            third: 0,
+            fourth: 0,
+            count: 0,
+        }
     }
 
     pub fn one(p: u16) -> Children
         ensures { λ r. ⌜ kidsOf r ≡ p ∷ [] ⌝ }
     {
-        Children { first: p, second: 0, third: 0, fourth: 0, count: 1 }
+        Children {
+            first: p,
+            second: 0,
+            third: 0,
+            fourth: 0,
+            count: 1,
+        }
     }
 
     pub fn two(p: u16, q: u16) -> Children
         ensures { λ r. ⌜ kidsOf r ≡ p ∷ q ∷ [] ⌝ }
     {
-        Children { first: p, second: q, third: 0, fourth: 0, count: 2 }
+        Children {
+            first: p,
+            second: q,
+            third: 0,
+            fourth: 0,
+            count: 2,
+        }
     }
 
     pub fn len(self) -> u8
@@ -62,16 +80,45 @@ impl Children {
         requires { ⌜ i ≤ length (kidsOf self) ⌝ ∗ ⌜ length (kidsOf self) < 4 ⌝ }
         ensures { λ r. ⌜ kidsOf r ≡ take i (kidsOf self) ++ (p ∷ drop i (kidsOf self)) ⌝ }
     {
-        let Children { first, second, third, .. } = self;
+        let Children {
+            first,
+            second,
+            third,
+            ..
+        } = self;
         let count = self.len() + 1;
         if i == 0 {
-            Children { first: p, second: first, third: second, fourth: third, count }
+            Children {
+                first: p,
+                second: first,
+                third: second,
+                fourth: third,
+                count,
+            }
         } else if i == 1 {
-            Children { first, second: p, third: second, fourth: third, count }
+            Children {
+                first,
+                second: p,
+                third: second,
+                fourth: third,
+                count,
+            }
         } else if i == 2 {
-            Children { first, second, third: p, fourth: third, count }
+            Children {
+                first,
+                second,
+                third: p,
+                fourth: third,
+                count,
+            }
         } else {
-            Children { first, second, third, fourth: p, count }
+            Children {
+                first,
+                second,
+                third,
+                fourth: p,
+                count,
+            }
         }
     }
 
@@ -80,16 +127,46 @@ impl Children {
         requires { ⌜ i < length (kidsOf self) ⌝ }
         ensures { λ r. ⌜ kidsOf r ≡ take i (kidsOf self) ++ drop (i + 1) (kidsOf self) ⌝ }
     {
-        let Children { first, second, third, fourth, .. } = self;
+        let Children {
+            first,
+            second,
+            third,
+            fourth,
+            ..
+        } = self;
         let count = self.len() - 1;
         if i == 0 {
-            Children { first: second, second: third, third: fourth, fourth, count }
+            Children {
+                first: second,
+                second: third,
+                third: fourth,
+                fourth,
+                count,
+            }
         } else if i == 1 {
-            Children { first, second: third, third: fourth, fourth, count }
+            Children {
+                first,
+                second: third,
+                third: fourth,
+                fourth,
+                count,
+            }
         } else if i == 2 {
-            Children { first, second, third: fourth, fourth, count }
+            Children {
+                first,
+                second,
+                third: fourth,
+                fourth,
+                count,
+            }
         } else {
-            Children { first, second, third, fourth, count }
+            Children {
+                first,
+                second,
+                third,
+                fourth,
+                count,
+            }
         }
     }
 
@@ -108,16 +185,46 @@ impl Children {
         requires { ⌜ n ≤ length (kidsOf self) ⌝ }
         ensures { λ r. ⌜ kidsOf r ≡ drop n (kidsOf self) ⌝ }
     {
-        let Children { first, second, third, fourth, .. } = self;
+        let Children {
+            first,
+            second,
+            third,
+            fourth,
+            ..
+        } = self;
         let count = self.len() - n;
         if n == 0 {
-            Children { first, second, third, fourth, count }
+            Children {
+                first,
+                second,
+                third,
+                fourth,
+                count,
+            }
         } else if n == 1 {
-            Children { first: second, second: third, third: fourth, fourth, count }
+            Children {
+                first: second,
+                second: third,
+                third: fourth,
+                fourth,
+                count,
+            }
         } else if n == 2 {
-            Children { first: third, second: fourth, third, fourth, count }
+            Children {
+                first: third,
+                second: fourth,
+                third,
+                fourth,
+                count,
+            }
         } else {
-            Children { first: fourth, second, third, fourth, count }
+            Children {
+                first: fourth,
+                second,
+                third,
+                fourth,
+                count,
+            }
         }
     }
 }

@@ -63,5 +63,10 @@ impl Free {
 fn linked<C: Copy, R: Copy>(node: Node<C, R>, link: u16) -> Node<C, R>
     ensures { λ r. ⌜ r .children .first ≡ link ⌝ }
 {
-    Node { own: node.own, kept: node.kept, children: Children::none(link), keeps: false }
+    Node {
+        own: node.own,
+        kept: node.kept,
+        children: Children::none(link),
+        keeps: false,
+    }
 }

@@ -28,7 +28,12 @@ use table::node::write;
 fn with_kept<C: Copy, R: Copy>(n: Node<C, R>, x: Stored<C, R>) -> Node<C, R>
     ensures { λ r. ⌜ r ≡ keeping n true x ⌝ }
 {
-    Node { own: n.own, kept: x, children: n.children, keeps: true }
+    Node {
+        own: n.own,
+        kept: x,
+        children: n.children,
+        keeps: true,
+    }
 }
 
 // The node with none kept.
@@ -44,7 +49,12 @@ fn emptied<C: Copy, R: Copy>(n: Node<C, R>) -> Node<C, R>
 fn keeping_as<C: Copy, R: Copy>(n: Node<C, R>, top: Node<C, R>) -> Node<C, R>
     ensures { λ r. ⌜ r ≡ keeping n (top .keeps) (top .kept) ⌝ }
 {
-    Node { own: n.own, kept: top.kept, children: n.children, keeps: top.keeps }
+    Node {
+        own: n.own,
+        kept: top.kept,
+        children: n.children,
+        keeps: top.keeps,
+    }
 }
 
 // The point that a node keeps goes; of those that its children keep the first in rank moves up,
@@ -117,10 +127,7 @@ pub fn push<K: Kind>(
 }
 
 // Whether a node keeps the point of a key.
-fn keeps_key<K: Kind>(
-    n: Node<K::Coordinate, K::Recorded>,
-    key: Key<K::Coordinate>,
-) -> bool
+fn keeps_key<K: Kind>(n: Node<K::Coordinate, K::Recorded>, key: Key<K::Coordinate>) -> bool
     ensures { λ r. ⌜ r ≡ hasKey (K·Kind .meaning) key (keptIn (K·Kind .meaning) n) ⌝ }
 {
     if !n.keeps {

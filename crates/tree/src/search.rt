@@ -24,16 +24,23 @@ use table::node::read;
 pub fn key_of<C: Copy, R: Copy>(s: Stored<C, R>) -> Key<C>
     ensures { λ r. ⌜ r ≡ keyIn s ⌝ }
 {
-    Key { at: s.at, number: s.number }
+    Key {
+        at: s.at,
+        number: s.number,
+    }
 }
 
 // A stored point, its weight recalled.
-pub fn point_of<K: Kind>(
-    s: Stored<K::Coordinate, K::Recorded>,
-) -> Point<K::Coordinate, K::Weight>
+pub fn point_of<K: Kind>(s: Stored<K::Coordinate, K::Recorded>) -> Point<K::Coordinate, K::Weight>
     ensures { λ r. ⌜ r ≡ pointIn (K·Kind .meaning) s ⌝ }
 {
-    Point { key: Key { at: s.at, number: s.number }, weight: K::recall(s.weight) }
+    Point {
+        key: Key {
+            at: s.at,
+            number: s.number,
+        },
+        weight: K::recall(s.weight),
+    }
 }
 
 // Whether `x` comes before `y` in rank order.
@@ -96,10 +103,7 @@ pub fn pick_child<K: Kind>(
 }
 
 // The number of the child that keeps the first point in rank order.
-pub fn best_child<K: Kind>(
-    nodes: &[Node<K::Coordinate, K::Recorded>],
-    children: Children,
-) -> u8
+pub fn best_child<K: Kind>(nodes: &[Node<K::Coordinate, K::Recorded>], children: Children) -> u8
     requires within { ⌜ All (λ q. q < length (now nodes)) (kidsOf children) ⌝ }
     requires some { ⌜ 0 < length (kidsOf children) ⌝ }
     ensures is { λ r. ⌜ r ≡ bestAt (K·Kind .meaning) (now (nodes .entry)) (kidsOf children) ⌝ }

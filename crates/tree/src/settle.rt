@@ -27,7 +27,12 @@ use table::node::write;
 fn parent<C: Copy, R: Copy>(first: Node<C, R>, children: Children) -> Node<C, R>
     ensures { λ r. ⌜ r ≡ bare (first .own) children ⌝ }
 {
-    Node { own: first.own, kept: first.own, children, keeps: false }
+    Node {
+        own: first.own,
+        kept: first.own,
+        children,
+        keeps: false,
+    }
 }
 
 // Lays a node over some trees; it keeps the first in rank of what they kept.

@@ -21,7 +21,6 @@ mutual
     more : Tree C W → Forest C W → Forest C W
 
 infixr 30 _⊕_
-
 -- one after the other
 abbrev pub _⊕_ : {C W : Type 0} → Forest C W → Forest C W → Forest C W
 none ⊕ us = us

@@ -32,9 +32,22 @@ pick-child-i-requires g t c κs = record {
 }
 
 pub insert-at-requires : need.insert-at-requires
-insert-at-requires g t c κs within =
-    (omega arith, (within .0, (within .1 .0, (within .1 .1 .0, (within .1 .1 .1,
-    subst (λ p. Ready (g .K·Kind .meaning) (c .args .nodes .now) (c .args .free .now) (c .args .height - 1) p) (sym (c .at-child .ensures)) (child-ready (g .K·Kind .meaning) (c .args .nodes .now) (c .args .free .now) (c .args .height - 1) (c .args .at) (ready-up (g .K·Kind .meaning) (c .args .nodes .now) (c .args .free .now) (c .args .height) (c .args .at) (c .if-height-eq0 .left) (c .pre)) (c .read-n .result) (c .read-n .ensures) (c .pick-child-i .result) (c .pick-child-i .ensures .below) (pointIn (g .K·Kind .meaning) (c .args .x))))))))
+insert-at-requires g t c κs within = (
+  omega arith,
+  (
+    within .0,
+    (
+      within .1 .0,
+      (
+        within .1 .1 .0,
+        (
+          within .1 .1 .1,
+          subst (λ p. Ready (g .K·Kind .meaning) (c .args .nodes .now) (c .args .free .now) (c .args .height - 1) p) (sym (c .at-child .ensures)) (child-ready (g .K·Kind .meaning) (c .args .nodes .now) (c .args .free .now) (c .args .height - 1) (c .args .at) (ready-up (g .K·Kind .meaning) (c .args .nodes .now) (c .args .free .now) (c .args .height) (c .args .at) (c .if-height-eq0 .left) (c .pre)) (c .read-n .result) (c .read-n .ensures) (c .pick-child-i .result) (c .pick-child-i .ensures .below) (pointIn (g .K·Kind .meaning) (c .args .x))),
+        ),
+      ),
+    ),
+  ),
+)
 
 pub rewrite-requires : need.rewrite-requires
 rewrite-requires g t c κs =
@@ -95,6 +108,6 @@ pub returns : need.returns
 returns g t c =
     let four = full-four (length (kidsOf (c .read-n .result .children))) (few (c .read-n .result .children)) (subst (λ n. 4 ≤ n) (c .len .ensures) (c .if-len-lt4 .left)) in
     let sp = subst (λ k. Split (g .K·Kind .meaning) (c .insert-at .last .nodes) (c .split .last .nodes) k (c .args .at) (c .take-next .result) (take half (withNext (c .pick-child-i .result) (c .in-Some .q) (kidsOf (c .read-n .result .children)))) (drop half (withNext (c .pick-child-i .result) (c .in-Some .q) (kidsOf (c .read-n .result .children)))) (keptIn (g .K·Kind .meaning) (c .read-n .result))) (up (c .args .height) (c .if-height-eq0 .left))
-        (subst (λ l. Split (g .K·Kind .meaning) (c .insert-at .last .nodes) (c .split .last .nodes) (c .args .height) (c .args .at) (c .take-next .result) l (drop half (withNext (c .pick-child-i .result) (c .in-Some .q) (kidsOf (c .read-n .result .children)))) (keptIn (g .K·Kind .meaning) (c .read-n .result))) (c .halve .ensures .left)
-        (subst (λ l. Split (g .K·Kind .meaning) (c .insert-at .last .nodes) (c .split .last .nodes) (c .args .height) (c .args .at) (c .take-next .result) (kidsOf (c .halve .result .left)) l (keptIn (g .K·Kind .meaning) (c .read-n .result))) (c .halve .ensures .right) (c .split .ensures))) in
+    (subst (λ l. Split (g .K·Kind .meaning) (c .insert-at .last .nodes) (c .split .last .nodes) (c .args .height) (c .args .at) (c .take-next .result) l (drop half (withNext (c .pick-child-i .result) (c .in-Some .q) (kidsOf (c .read-n .result .children)))) (keptIn (g .K·Kind .meaning) (c .read-n .result))) (c .halve .ensures .left)
+    (subst (λ l. Split (g .K·Kind .meaning) (c .insert-at .last .nodes) (c .split .last .nodes) (c .args .height) (c .args .at) (c .take-next .result) (kidsOf (c .halve .result .left)) l (keptIn (g .K·Kind .meaning) (c .read-n .result))) (c .halve .ensures .right) (c .split .ensures))) in
     ready-down (g .K·Kind .meaning) (c .args .nodes .now) (c .split .last .nodes) (c .args .free .now) (c .take-next .last .self) (c .args .height) (c .args .at) (pointIn (g .K·Kind .meaning) (c .args .x)) (Some (c .take-next .result)) (c .if-height-eq0 .left) (split-grown (g .K·Kind .meaning) (c .args .nodes .now) (c .args .free .now) (c .args .height - 1) (c .args .at) (ready-up (g .K·Kind .meaning) (c .args .nodes .now) (c .args .free .now) (c .args .height) (c .args .at) (c .if-height-eq0 .left) (c .pre)) (c .read-n .result) (c .read-n .ensures) (c .pick-child-i .result) (c .pick-child-i .ensures .below) (pointIn (g .K·Kind .meaning) (c .args .x)) (c .insert-at .last .nodes) (c .insert-at .last .free) (c .in-Some .q) (subst (λ o. Inserted (g .K·Kind .meaning) (c .args .nodes .now) (c .insert-at .last .nodes) (c .args .free .now) (c .insert-at .last .free) (c .args .height - 1) (getD (kidsOf (c .read-n .result .children)) (c .pick-child-i .result) 0) (pointIn (g .K·Kind .meaning) (c .args .x)) o) (c .in-Some .is) (subst (λ p. Inserted (g .K·Kind .meaning) (c .args .nodes .now) (c .insert-at .last .nodes) (c .args .free .now) (c .insert-at .last .free) (c .args .height - 1) p (pointIn (g .K·Kind .meaning) (c .args .x)) (c .insert-at .result)) (c .at-child .ensures) (c .insert-at .ensures))) (c .insert-at .kept .nodes) four (c .take-next .last .self) (c .take-next .result) (c .take-next .ensures) (c .pick-child-i .ensures .is ∙ ap (λ k. pickAt (g .K·Kind .meaning) (c .args .nodes .now) k (kidsOf (c .read-n .result .children))) (c .key-of .ensures) ∙ sym (pick-tree (g .K·Kind .meaning) (c .args .nodes .now) (c .args .height - 1) (keyIn (c .args .x)) (kidsOf (c .read-n .result .children)))) (c .split .last .nodes) (c .split .kept .nodes) sp)

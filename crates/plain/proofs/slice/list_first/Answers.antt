@@ -22,16 +22,18 @@ loop-p-again g c =
       | then-is-inside w ↦
           let e = sym t ∙ w .if-is-inside .taken in
           let step = list-more (λ q. inside m (c .args .l) (c .args .u) (q .key .at)) ps was (c .loop-p .list) (c .loop-p .p-index) n (c .p-item .result) (c .loop-p-test .taken) (c .p-item .is) (inv .0) (inv .1) e room in
-          let more = count-more (λ q. inside m (c .args .l) (c .args .u) (q .key .at)) ps was (c .loop-p .list) (c .loop-p .p-index) n (c .p-item .result) (c .loop-p-test .taken) (c .p-item .is) (inv .0) (inv .1) e in
-          (w .list-is ∙ step ∙ ap (λ (k : ℕ). window m (c .args .l) (c .args .u) (take (c .loop-p .p-index + 1) ps) ++ drop k was) (sym (w .count-is)),
-           w .count-is ∙ more,
-           omega (arith, w .count-is))
+          let more = count-more (λ q. inside m (c .args .l) (c .args .u) (q .key .at)) ps was (c .loop-p .list) (c .loop-p .p-index) n (c .p-item .result) (c .loop-p-test .taken) (c .p-item .is) (inv .0) (inv .1) e in (
+            w .list-is ∙ step ∙ ap (λ (k : ℕ). window m (c .args .l) (c .args .u) (take (c .loop-p .p-index + 1) ps) ++ drop k was) (sym (w .count-is)),
+            w .count-is ∙ more,
+            omega (arith, w .count-is),
+          )
       | else-is-inside w ↦
           let e = sym t ∙ w .if-is-inside .left in
-          let step = list-same (λ q. inside m (c .args .l) (c .args .u) (q .key .at)) ps was (c .loop-p .list) (c .loop-p .p-index) n (c .p-item .result) (c .loop-p-test .taken) (c .p-item .is) (inv .0) (inv .1) e in
-          (w .list-is ∙ inv .0 ∙ ap (λ l. l ++ drop n was) (sym step) ∙ ap (λ (k : ℕ). window m (c .args .l) (c .args .u) (take (c .loop-p .p-index + 1) ps) ++ drop k was) (sym (w .count-is)),
-           w .count-is ∙ inv .1 ∙ ap length (sym step),
-           omega (arith, w .count-is, inv .2))
+          let step = list-same (λ q. inside m (c .args .l) (c .args .u) (q .key .at)) ps was (c .loop-p .list) (c .loop-p .p-index) n (c .p-item .result) (c .loop-p-test .taken) (c .p-item .is) (inv .0) (inv .1) e in (
+            w .list-is ∙ inv .0 ∙ ap (λ l. l ++ drop n was) (sym step) ∙ ap (λ (k : ℕ). window m (c .args .l) (c .args .u) (take (c .loop-p .p-index + 1) ps) ++ drop k was) (sym (w .count-is)),
+            w .count-is ∙ inv .1 ∙ ap length (sym step),
+            omega (arith, w .count-is, inv .2),
+          )
     ]
 
 pub returns : need.returns

@@ -22,17 +22,19 @@ loop-p-again g c =
     let t = c .is-inside .ensures in
     elim (c .if-is-inside .came) [
       | then-is-inside w ↦
-          let e = taken (λ q. inside m (c .args .l) (c .args .u) (q .key .at)) ps i p (c .loop-p-test .taken) (c .p-item .is) (sym t ∙ w .if-is-inside .taken) in
-          (ap (λ (s : Float). sumFrom s (map (λ q. n (q .weight)) (window m (c .args .l) (c .args .u) (drop (i + 1) ps)))) (w .sum-is ∙ w .plus-sum .ensures)
-          ∙ sym (ap (λ l. sumFrom (c .loop-p .sum) (map (λ q. n (q .weight)) l)) e) ∙ c .loop-p .inv .0,
-           omega (arith, ap length e, c .loop-p .inv .1, w .count-is),
-           omega (arith, c .loop-p .inv .2, w .count-is))
+          let e = taken (λ q. inside m (c .args .l) (c .args .u) (q .key .at)) ps i p (c .loop-p-test .taken) (c .p-item .is) (sym t ∙ w .if-is-inside .taken) in (
+            ap (λ (s : Float). sumFrom s (map (λ q. n (q .weight)) (window m (c .args .l) (c .args .u) (drop (i + 1) ps)))) (w .sum-is ∙ w .plus-sum .ensures)
+                ∙ sym (ap (λ l. sumFrom (c .loop-p .sum) (map (λ q. n (q .weight)) l)) e) ∙ c .loop-p .inv .0,
+            omega (arith, ap length e, c .loop-p .inv .1, w .count-is),
+            omega (arith, c .loop-p .inv .2, w .count-is),
+          )
       | else-is-inside w ↦
-          let e = passed (λ q. inside m (c .args .l) (c .args .u) (q .key .at)) ps i p (c .loop-p-test .taken) (c .p-item .is) (sym t ∙ w .if-is-inside .left) in
-          (ap (λ (s : Float). sumFrom s (map (λ q. n (q .weight)) (window m (c .args .l) (c .args .u) (drop (i + 1) ps)))) (w .sum-is)
-          ∙ sym (ap (λ l. sumFrom (c .loop-p .sum) (map (λ q. n (q .weight)) l)) e) ∙ c .loop-p .inv .0,
-           omega (arith, ap length e, c .loop-p .inv .1, w .count-is),
-           omega (arith, c .loop-p .inv .2, w .count-is))
+          let e = passed (λ q. inside m (c .args .l) (c .args .u) (q .key .at)) ps i p (c .loop-p-test .taken) (c .p-item .is) (sym t ∙ w .if-is-inside .left) in (
+            ap (λ (s : Float). sumFrom s (map (λ q. n (q .weight)) (window m (c .args .l) (c .args .u) (drop (i + 1) ps)))) (w .sum-is)
+                ∙ sym (ap (λ l. sumFrom (c .loop-p .sum) (map (λ q. n (q .weight)) l)) e) ∙ c .loop-p .inv .0,
+            omega (arith, ap length e, c .loop-p .inv .1, w .count-is),
+            omega (arith, c .loop-p .inv .2, w .count-is),
+          )
     ]
 
 pub returns : need.returns

@@ -21,9 +21,10 @@ read-node-requires g c κs =
     subst (λ q. q < length (c .args .nodes .now)) (sym (c .at-in-loop-i .ensures)) (all-getD (λ q. q < length (c .args .nodes .now)) (kidsOf (c .args .children)) (c .loop-i .i) 0 lt (c .pre .within))
 
 pub loop-i-holds : need.loop-i-holds
-loop-i-holds g c =
-    (best-start (g .K·Kind .meaning) (c .args .nodes .now) (kidsOf (c .args .children)) (c .pre .some) (c .read-top .result) (subst (λ q. nth (c .args .nodes .now) q ≡ Some (c .read-top .result)) (c .at .ensures) (c .read-top .ensures)),
-     c .pre .some)
+loop-i-holds g c = (
+  best-start (g .K·Kind .meaning) (c .args .nodes .now) (kidsOf (c .args .children)) (c .pre .some) (c .read-top .result) (subst (λ q. nth (c .args .nodes .now) q ≡ Some (c .read-top .result)) (c .at .ensures) (c .read-top .ensures)),
+  c .pre .some,
+)
 
 pub loop-i-again : need.loop-i-again
 loop-i-again g c =
@@ -35,13 +36,15 @@ loop-i-again g c =
     let is = subst (λ q. nth ns q ≡ Some n) (c .at-in-loop-i .ensures) (c .read-node .ensures) in
     elim (c .if-leads-over .came) [
       | then-leads-over w ↦
-          let e = best-new m ns ps (c .loop-i .best) (keptIn m (c .loop-i .top)) (c .loop-i .i) lt (c .loop-i .inv .0) n is (sym (c .leads-over .ensures) ∙ w .if-leads-over .taken) in
-          (subst (λ b. Best m ns ps b (keptIn m (c .if-leads-over .top)) (c .loop-i .i + 1)) (sym (w .best-is)) (subst (λ t. Best m ns ps (c .loop-i .i) (keptIn m t) (c .loop-i .i + 1)) (sym (w .top-is)) e),
-           subst (λ b. b < length ps) (sym (w .best-is)) lt)
+          let e = best-new m ns ps (c .loop-i .best) (keptIn m (c .loop-i .top)) (c .loop-i .i) lt (c .loop-i .inv .0) n is (sym (c .leads-over .ensures) ∙ w .if-leads-over .taken) in (
+            subst (λ b. Best m ns ps b (keptIn m (c .if-leads-over .top)) (c .loop-i .i + 1)) (sym (w .best-is)) (subst (λ t. Best m ns ps (c .loop-i .i) (keptIn m t) (c .loop-i .i + 1)) (sym (w .top-is)) e),
+            subst (λ b. b < length ps) (sym (w .best-is)) lt,
+          )
       | else-leads-over w ↦
-          let e = best-old m ns ps (c .loop-i .best) (keptIn m (c .loop-i .top)) (c .loop-i .i) lt (c .loop-i .inv .0) n is (sym (c .leads-over .ensures) ∙ w .if-leads-over .left) in
-          (subst (λ b. Best m ns ps b (keptIn m (c .if-leads-over .top)) (c .loop-i .i + 1)) (sym (w .best-is)) (subst (λ t. Best m ns ps (c .loop-i .best) (keptIn m t) (c .loop-i .i + 1)) (sym (w .top-is)) e),
-           subst (λ b. b < length ps) (sym (w .best-is)) (c .loop-i .inv .1))
+          let e = best-old m ns ps (c .loop-i .best) (keptIn m (c .loop-i .top)) (c .loop-i .i) lt (c .loop-i .inv .0) n is (sym (c .leads-over .ensures) ∙ w .if-leads-over .left) in (
+            subst (λ b. Best m ns ps b (keptIn m (c .if-leads-over .top)) (c .loop-i .i + 1)) (sym (w .best-is)) (subst (λ t. Best m ns ps (c .loop-i .best) (keptIn m t) (c .loop-i .i + 1)) (sym (w .top-is)) e),
+            subst (λ b. b < length ps) (sym (w .best-is)) (c .loop-i .inv .1),
+          )
     ]
 
 pub returns : need.returns

@@ -30,4 +30,3 @@ returns-else-i-eq2 c =
     let s = c .args .self in
     let e : c .args .i ≡ 3 = (omega (arith, few (c .args .self))) in
     subst (λ j. s .fourth ≡ getD (kidsOf s) j 0) (sym e) (by-count s (length (kidsOf s)) refl (λ r ks. 3 < r → s .fourth ≡ getD ks 3 0) (λ h. absurd (omega arith)) (λ h. absurd (omega arith)) (λ h. absurd (omega arith)) (λ h. absurd (omega arith)) (λ h. refl) (omega arith))
-

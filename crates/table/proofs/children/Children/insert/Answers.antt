@@ -34,4 +34,3 @@ returns-else-i-eq2 c =
     let e : c .args .i ≡ 3 = (omega (arith, few (c .args .self))) in
     subst (λ j. take (c .len-count .result + 1) (s .first ∷ s .second ∷ s .third ∷ c .args .p ∷ []) ≡ take j (kidsOf s) ++ (c .args .p ∷ drop j (kidsOf s))) (sym e)
     (by-count s (c .len-count .result) (c .len-count .ensures) (λ r ks. (3 ≤ r) × (r < 4) → take (r + 1) (s .first ∷ s .second ∷ s .third ∷ c .args .p ∷ []) ≡ take 3 ks ++ (c .args .p ∷ drop 3 ks)) (λ h. absurd (omega (arith, h .0, h .1))) (λ h. absurd (omega (arith, h .0, h .1))) (λ h. absurd (omega (arith, h .0, h .1))) (λ h. refl) (λ h. absurd (omega (arith, h .0, h .1))) (omega arith, omega arith))
-

@@ -34,4 +34,3 @@ returns-else-i-eq2 c =
     let e : c .args .i ≡ 3 = (omega (arith, few (c .args .self))) in
     subst (λ j. take (c .len-count .result - 1) (s .first ∷ s .second ∷ s .third ∷ s .fourth ∷ []) ≡ take j (kidsOf s) ++ drop (j + 1) (kidsOf s)) (sym e)
     (by-count s (c .len-count .result) (c .len-count .ensures) (λ r ks. 3 < r → take (r - 1) (s .first ∷ s .second ∷ s .third ∷ s .fourth ∷ []) ≡ take 3 ks ++ drop 4 ks) (λ h. absurd (omega arith)) (λ h. absurd (omega arith)) (λ h. absurd (omega arith)) (λ h. absurd (omega arith)) (λ h. refl) (omega arith))
-

@@ -1,0 +1,3 @@
+pub mod Opens
+pub mod Turns
+pub mod Ranges
