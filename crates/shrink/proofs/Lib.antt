@@ -1,0 +1,9 @@
+pub mod Lists
+pub mod Basics
+pub mod Joins
+pub mod Sides
+pub mod Renews
+pub mod Mends
+pub mod Removes
+pub mod Lowers
+pub mod Wholes

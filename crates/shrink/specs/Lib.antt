@@ -1,0 +1,3 @@
+pub mod Joins
+pub mod Removes
+pub mod Lowers
