@@ -1,0 +1,4 @@
+pub mod Rises
+pub mod Nodes
+pub mod Keeps
+pub mod Passed
