@@ -1,5 +1,5 @@
 -- Open children join from the right, one after the other.
-use mathlib.Core.Path.{_≡_, refl, sym, ap, subst, _∙_}
+use mathlib.Core.Path.{_≡_, refl, sym, ap, _∙_}
 use mathlib.Core.Bool.{Bool, true, false, cond, not, _&&_}
 use mathlib.Core.List.{List, [], _∷_, _++_, map, map-append}
 use Prim.Native.Nat.{ℕ, zero, suc, _+_, _-_, _≤_, _<_}
@@ -8,14 +8,13 @@ use lib.ListN.{length, getD, drop, length-append}
 use Rattle.std.specs.Finite.{nth}
 use Rattle.std.specs.declared.option.Option.the-variants.{Some}
 use Rattle.std.proofs.shelf.Lists.{at-drop-more, at-drop-all}
-use Rattle.std.proofs.shelf.Tests.{cond-true, cond-false}
 use Rattle.kinds.specs.Meaning.{Meaning}
 use Rattle.plain.specs.Windows.{later}
 use Rattle.table.specs.declared.node.Node.{Node}
 use Rattle.tree.specs.Places.{keyAt, keyOfNode}
 use Rattle.walk.specs.declared.entries.Entry.{Entry}
 use Rattle.walked.specs.Walk.{startsBy, startsFrom, reachesRight, openOf}
-use Rattle.trees.specs.Tree.{Tree, Forest, none, more, grow, keyOf}
+use Rattle.trees.specs.Tree.{more, grow, keyOf}
 use Rattle.table.specs.Reading.{treeAt}
 use Rattle.tree.proofs.Picks.{key-tree}
 use Rattle.walk.specs.Entries.{entry, treeOf, treesOf, reachesAt, openEntries}

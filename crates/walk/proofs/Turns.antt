@@ -1,10 +1,10 @@
 -- One step of a walk: the entry on top is taken, and the nodes that it leads to join.
 use mathlib.Core.Path.{_≡_, refl, sym, ap, subst, _∙_}
 use mathlib.Core.Bool.{Bool, true, false, cond, _&&_}
-use mathlib.Core.List.{List, [], _∷_, _++_, map, map-append, append-assoc}
-use Prim.Native.Nat.{ℕ, zero, suc, _+_, _-_, _*_, _≤_, _<_}
+use mathlib.Core.List.{List, [], _∷_, _++_, map-append}
+use Prim.Native.Nat.{ℕ, zero, suc, _+_, _-_, _*_, _≤_}
 use native.Mathlib.Omega.{arith}
-use lib.ListN.{length, getD, length-append}
+use lib.ListN.{length, length-append}
 use Rattle.std.specs.Finite.{nth}
 use Rattle.std.specs.shelf.Lists.{All, joined}
 use Rattle.std.proofs.shelf.Elements.{all-append, all-from-getD}
@@ -12,10 +12,12 @@ use Rattle.std.specs.declared.option.Option.{Option}
 use Rattle.std.specs.declared.option.Option.the-variants.{Some}
 use Rattle.kinds.specs.Meaning.{Meaning}
 use Rattle.plain.specs.declared.point.Point.{Point}
-use Rattle.trees.specs.Tree.{Tree, Forest, leaf, fork, none, more, grow, keptBy}
-use Rattle.walked.specs.Walk.{startsBy, opens, openOf, walk, walkAll}
+use Rattle.trees.specs.Tree.{fork, keptBy}
+use Rattle.walked.specs.Walk.{startsBy, walk, walkAll}
+use Rattle.walked.proofs.Parts.{joined-join}
+use Rattle.walked.proofs.Stacks.{walk-open}
 use Rattle.table.specs.declared.node.Node.{Node}
-use Rattle.table.specs.Reading.{keyIn, pointIn, keptIn, leafOf, treeAt, Sound}
+use Rattle.table.specs.Reading.{keyIn, keptIn, treeAt, Sound}
 use Rattle.table.proofs.Cases.{few}
 use Rattle.table.proofs.Steps.{kids, below, fork-was, kid-sound}
 use Rattle.tree.specs.Places.{keyAt}
@@ -23,10 +25,6 @@ use Rattle.tree.proofs.Pulls.{leaf-was}
 use Rattle.walk.specs.declared.entries.Entry.{Entry}
 use Rattle.walk.specs.Entries.{entry, treeOf, treesOf, reachesAt, openEntries, Rooms, AllSound, toCome}
 use Rattle.walk.proofs.Opens.{open-trees}
-
-pub joined-append : {X Y : Type 0} (f : X → List Y) (xs ys : List X) → joined f (xs ++ ys) ≡ joined f xs ++ joined f ys
-joined-append f [] ys = refl
-joined-append f (x ∷ xs) ys = ap (λ l. f x ++ l) (joined-append f xs ys) ∙ sym (append-assoc (f x) (joined f xs) (joined f ys))
 
 -- at most one entry for each child
 pub open-few : {C W R : Type 0} (m : Meaning C W R) (ns : List (Node C R)) (h : ℕ) (l u : C) (ps : List ℕ) → length (openEntries m ns h l u ps) ≤ length ps
@@ -52,14 +50,6 @@ rooms-on h [] es a n r = r
 rooms-on h (x ∷ xs) es a n r = (omega (arith, a .0, length-append xs es), rooms-on h xs es (a .1) (omega arith) r)
 
 module _ {C W R : Type 0} (m : Meaning C W R) (leads : Option (Point C W) → Bool) (l u : C) where
-  walk-all : (ts : Forest C W) → walkAll m leads l u ts ≡ joined (walk m leads l u) (openOf m l u ts)
-  walk-all none = refl
-  walk-all (more t ts) = go (opens m l u t ts) (walk-all ts)
-    where
-      go : (b : Bool) → walkAll m leads l u ts ≡ joined (walk m leads l u) (openOf m l u ts) → cond b (walk m leads l u t) [] ++ walkAll m leads l u ts ≡ joined (walk m leads l u) (cond b (t ∷ []) [] ++ openOf m l u ts)
-      go true rest = ap (λ vs. walk m leads l u t ++ vs) rest
-      go false rest = rest
-
   module _ (ns : List (Node C R)) (e : Entry) (es : List Entry) (n : Node C R) (is : nth ns (e .place) ≡ Some n) where
     -- what the entry keeps
     pub kept-here : keptBy (treeOf m ns e) ≡ keptIn m n
@@ -96,8 +86,8 @@ module _ {C W R : Type 0} (m : Meaning C W R) (leads : Option (Point C W) → Bo
         ∙ ap (λ b. fork (e .place) (keyIn (n .own)) (keptIn m n) (below m ns h n) ∷ cond b (walkAll m leads l u (below m ns h n)) []) on
         ∙ ap (λ t. t ∷ walkAll m leads l u (below m ns h n)) (sym (fork-was m ns h (e .place) n is)))
         ∙ ap (λ vs. treeAt m ns (suc h) (e .place) ∷ vs)
-        (ap (λ vs. vs ++ toCome m ns leads l u es) (walk-all (below m ns h n) ∙ ap (joined (walk m leads l u)) (sym (open-trees m ns h l u (kids m n) (kids m n))))
-        ∙ sym (joined-append (walk m leads l u) (treesOf m ns (openEntries m ns h l u (kids m n))) (treesOf m ns es))
+        (ap (λ vs. vs ++ toCome m ns leads l u es) (walk-open m leads l u (below m ns h n) ∙ ap (joined (walk m leads l u)) (sym (open-trees m ns h l u (kids m n) (kids m n))))
+        ∙ sym (joined-join (walk m leads l u) (treesOf m ns (openEntries m ns h l u (kids m n))) (treesOf m ns es))
         ∙ ap (joined (walk m leads l u)) (sym (map-append (treeOf m ns) (openEntries m ns h l u (kids m n)) es))))
 
   -- the entries that join name sound trees, and the stack has room for them

@@ -1,9 +1,9 @@
 // Nodes that a walk has yet to go to, kept as a stack: the entry that joined last is taken first.
 ghost use mathlib.Core.Path.{_≡_};
-ghost use mathlib.Core.Bool.{not, _&&_};
-ghost use mathlib.Core.List.{[], _∷_, _++_};
+ghost use mathlib.Core.Bool.{not};
+ghost use mathlib.Core.List.{_∷_, _++_};
 ghost use Prim.Native.Nat.{_+_, _<_, _≤_};
-ghost use lib.ListN.{length, take};
+ghost use lib.ListN.{length};
 ghost use Rattle.std.specs.shelf.Lists.{All};
 ghost use Rattle.table.specs.Kids.{kidsOf};
 ghost use Rattle.walk.specs.Entries.{pile, entry, openEntries};

@@ -1,13 +1,11 @@
 // The range walk: what it lists and how many nodes it visits.
 ghost use mathlib.Core.Path.{_≡_};
-ghost use mathlib.Core.Bool.{cond, _&&_};
-ghost use mathlib.Core.List.{[], _∷_, _++_};
-ghost use Prim.Native.Nat.{ℕ, _+_, _^_, _<_, _≤_};
-ghost use lib.Dec.{ltb};
-ghost use lib.ListN.{length, set};
+ghost use mathlib.Core.Bool.{cond};
+ghost use Prim.Native.Nat.{_+_, _^_, _<_, _≤_};
+ghost use lib.ListN.{length};
 ghost use Rattle.plain.specs.Windows.{inside};
 ghost use Rattle.walked.specs.Walk.{leadsOn, visits, ranged};
-ghost use Rattle.table.specs.Reading.{pointIn, keptIn, treeAt, Sound};
+ghost use Rattle.table.specs.Reading.{pointIn, keptIn, Sound};
 ghost use Rattle.walk.specs.Entries.{treeOf};
 ghost use Rattle.walk.specs.Lists.{filled, noted};
 use crate::entries::Entry;

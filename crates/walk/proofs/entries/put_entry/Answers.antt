@@ -1,5 +1,5 @@
-use mathlib.Core.Path.{_≡_, sym, ap, _∙_}
-use mathlib.Core.List.{reverse, [], _∷_, _++_, reverse-append}
+use mathlib.Core.Path.{ap, _∙_}
+use mathlib.Core.List.{reverse, [], _∷_, reverse-append}
 use lib.ListN.{take}
 use Rattle.std.proofs.shelf.Lists.{take-more-set}
 use Rattle.walk.specs.Entries.{entry}

@@ -1,15 +1,14 @@
 use mathlib.Core.Path.{_≡_, refl, sym, ap, subst, _∙_}
-use mathlib.Core.Bool.{not, _&&_, true, false}
+use mathlib.Core.Bool.{not, _&&_}
 use mathlib.Core.List.{List, [], _∷_, _++_}
 use native.Mathlib.Omega.{arith}
 use borrow.Author.Needs.{needs}
-use Prim.Native.Nat.{ℕ, _+_, _-_, _≤_, _<_}
+use Prim.Native.Nat.{ℕ, _+_, _-_, _<_}
 use lib.ListN.{length, getD, drop}
 use Rattle.std.specs.Finite.{nth}
 use Rattle.std.specs.declared.option.Option.the-variants.{Some}
 use Rattle.std.proofs.shelf.Elements.{all-getD}
 use Rattle.table.specs.Kids.{kidsOf}
-use Rattle.plain.specs.Windows.{later}
 use Rattle.walk.specs.Entries.{pile, entry, reachesAt, openEntries}
 use Rattle.walk.proofs.Opens.{open-start, open-more, open-same, reaches-next, joined-few}
 use Rattle.walk.proofs.entries.put_open.Needs as need
