@@ -5,6 +5,7 @@ ghost use mathlib.Core.List.{_∷_, _++_};
 ghost use Prim.Native.Nat.{_+_, _<_, _≤_};
 ghost use lib.ListN.{length};
 ghost use Rattle.std.specs.shelf.Lists.{All};
+ghost use Rattle.plain.specs.Windows.{later};
 ghost use Rattle.table.specs.Kids.{kidsOf};
 ghost use Rattle.walk.specs.Entries.{pile, entry, openEntries};
 use kinds::Kind;
@@ -26,6 +27,20 @@ fn put_entry(entries: &mut [Entry], depth: usize, place: u16, height: u8)
     ensures { λ _. ⌜ pile (now (entries .exit)) (depth + 1) ≡ entry place height ∷ pile (now (entries .entry)) depth ⌝ }
 {
     entries[depth] = Entry { place, height };
+}
+
+// Whether a coordinate is not later than `u`.
+fn starts_by<K: Kind>(at: K::Coordinate, u: K::Coordinate) -> bool
+    ensures { λ r. ⌜ r ≡ not (later (K·Kind .meaning) at u) ⌝ }
+{
+    !is_later::<K>(at, u)
+}
+
+// Whether a coordinate is not earlier than `l`.
+fn starts_from<K: Kind>(at: K::Coordinate, l: K::Coordinate) -> bool
+    ensures { λ r. ⌜ r ≡ not (later (K·Kind .meaning) l at) ⌝ }
+{
+    !is_later::<K>(l, at)
 }
 
 // Puts the children that are open to a window on top, from the right, and says how many entries
@@ -52,11 +67,11 @@ pub fn put_open<K: Kind>(
         i -= 1;
         let child = children.at(i);
         let at = read(nodes, child).own.at;
-        if !is_later::<K>(at, u) & reaching {
+        if starts_by::<K>(at, u) & reaching {
             put_entry(entries, top, child, height);
             top += 1;
         }
-        reaching = !is_later::<K>(l, at);
+        reaching = starts_from::<K>(at, l);
     }
     top
 }
