@@ -58,7 +58,7 @@ pub fn find<K: Kind>(
 
 // The sum so far and one number more.
 fn plus<K: SummedKind>(sum: f32, weight: K::Weight) -> f32
-    ensures { result ≡ add binary32 sum (number weight) }
+    ensures { result ≡ add binary32 sum (K.number weight) }
 {
     sum + K::number_of(weight)
 }
@@ -69,7 +69,7 @@ pub fn sum_window<K: SummedKind>(
     l: K::Coordinate,
     u: K::Coordinate,
 ) -> (f32, usize)
-    ensures { result ≡ (total number (window K.Kind.meaning l u points.now), length (window K.Kind.meaning l u points.now)) }
+    ensures { result ≡ (total K.number (window K.Kind.meaning l u points.now), length (window K.Kind.meaning l u points.now)) }
 {
     let mut sum = 0.0;
     let mut count = 0;

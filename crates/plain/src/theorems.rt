@@ -16,7 +16,7 @@ pub fn set_laws_hold<K: Kind>()
 
 // A sum of the keys of another, at weights no smaller, is no smaller.
 pub fn sums_grow<K: SummedKind>()
-    ensures { SumsGrow K.Kind.meaning number }
+    ensures { SumsGrow K.Kind.meaning K.number }
 {
     K::numbers_hold();
 }

@@ -6,14 +6,14 @@ use Rattle.lines.specs.Digits.{Hex, writes}
 use Rattle.lines.proofs.Writing.{hex-next, hex-room, hex-more}
 use Rattle.lines.proofs.digits.pattern.Goals as goal
 
-pub returns-in-default : goal.returns-in-default
-returns-in-default c n h = c.in-default.ensures (All-get_or Hex c.args.s.now c.loop-b.b-index 0 c.loop-b-test.true h.digits)
+pub returns-in_default : goal.returns-in_default
+returns-in_default c n h = c.in_default.ensures (All-get_or Hex c.args.s.now c.loop-b.b-index 0 c.loop-b-test.true h.digits)
 
-pub overflow-mul-n : goal.overflow-mul-n
-overflow-mul-n c = let eight : length c.args.s.now ≡ 8 = search rules in let r = hex-room c.loop-b.n c.loop-b.b-index c.loop-b.invariant.2 (omega arith) in search rules
+pub overflow_mul-n : goal.overflow_mul-n
+overflow_mul-n c = let eight : length c.args.s.now ≡ 8 = search rules in let r = hex-room c.loop-b.n c.loop-b.b-index c.loop-b.invariant.2 (omega arith) in search rules
 
-pub overflow-add-n : goal.overflow-add-n
-overflow-add-n c = let eight : length c.args.s.now ≡ 8 = search rules in let r = hex-room c.loop-b.n c.loop-b.b-index c.loop-b.invariant.2 (omega arith) in let d = c.in-Some.ensures in search rules
+pub overflow_add-n : goal.overflow_add-n
+overflow_add-n c = let eight : length c.args.s.now ≡ 8 = search rules in let r = hex-room c.loop-b.n c.loop-b.b-index c.loop-b.invariant.2 (omega arith) in let d = c.in-Some.ensures in search rules
 
 pub loop-b-preserved : goal.loop-b-preserved
 loop-b-preserved c =

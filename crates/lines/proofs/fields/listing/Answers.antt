@@ -4,17 +4,17 @@ use Rattle.lines.specs.Grammar.{Then}
 use Rattle.lines.proofs.Cuts.{then-rest}
 use Rattle.lines.proofs.fields.listing.Goals as goal
 
-pub returns-in-err-l : goal.returns-in-err-l
-returns-in-err-l c = rw c.from-residual.ensures (λ a b d h. c.in-err-l.ensures a h.0 h.1)
+pub returns-in_err-l : goal.returns-in_err-l
+returns-in_err-l c = rw c.from_residual.ensures (λ a b d h. c.in_err-l.ensures a h.0 h.1)
 
-pub returns-in-err-u : goal.returns-in-err-u
-returns-in-err-u c = rw c.from-residual-in-err-u.ensures
+pub returns-in_err-u : goal.returns-in_err-u
+returns-in_err-u c = rw c.from_residual-in_err-u.ensures
     (λ a b d h.
-    let t = then-rest _ top_epoch top_epoch _ a _ (Then top_epoch b (Decimal most_places d)) c.in-ok-l.ensures h in
-    c.in-err-u.ensures b t.0 t.1)
+    let t = then-rest _ top_epoch top_epoch _ a _ (Then top_epoch b (Decimal most_places d)) c.in_ok-l.ensures h in
+    c.in_err-u.ensures b t.0 t.1)
 
-pub returns-in-err-k : goal.returns-in-err-k
-returns-in-err-k c = rw c.from-residual-in-err-k.ensures
+pub returns-in_err-k : goal.returns-in_err-k
+returns-in_err-k c = rw c.from_residual-in_err-k.ensures
     (λ a b d h.
-    let t = then-rest _ top_epoch top_epoch _ a _ (Then top_epoch b (Decimal most_places d)) c.in-ok-l.ensures h in
-    c.in-err-k.ensures d (then-rest _ top_epoch top_epoch _ b _ (Decimal most_places d) c.in-ok-u.ensures t))
+    let t = then-rest _ top_epoch top_epoch _ a _ (Then top_epoch b (Decimal most_places d)) c.in_ok-l.ensures h in
+    c.in_err-k.ensures d (then-rest _ top_epoch top_epoch _ b _ (Decimal most_places d) c.in_ok-u.ensures t))

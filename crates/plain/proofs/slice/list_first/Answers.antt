@@ -2,7 +2,7 @@ use Rattle.std.proofs.Common.{◌≡◌, ℕ, ◌+◌, ◌<◌, ◌≤◌, ◌++
 use Rattle.plain.specs.Windows.{inside, window, firsts}
 use Rattle.plain.proofs.Scans.{list-more, count-more, list_same, list_full}
 use Rattle.plain.proofs.slice.list_first.Goals as goal
-use Rattle.plain.proofs.slice.list_first.Goals.{then-is-inside, else-is-inside}
+use Rattle.plain.proofs.slice.list_first.Goals.{then-is_inside, else-is_inside}
 
 pub loop-p-preserved : goal.loop-p-preserved
 loop-p-preserved g c =
@@ -11,19 +11,19 @@ loop-p-preserved g c =
     let was = c.args.list.now in
     let n = c.loop-p.count in
     let inv = c.loop-p.invariant in
-    let t = c.is-inside.ensures in
+    let t = c.is_inside.ensures in
     let room : n < length was = omega (arith, c.if-count-list.false, c.loop-p.auto.list, inv.2) in
-    elim c.if-is-inside.branch [
-      | then-is-inside w ↦
-          let e = sym t ∙ w.if-is-inside.true in
+    elim c.if-is_inside.branch [
+      | then-is_inside w ↦
+          let e = sym t ∙ w.if-is_inside.true in
           let step = list-more (λ q. inside m c.args.l c.args.u q.key.at) ps was c.loop-p.list c.loop-p.p-index n c.p-item.result c.loop-p-test.true c.p-item.is inv.0 inv.1 e room in
           let more = count-more (λ q. inside m c.args.l c.args.u q.key.at) ps was c.loop-p.list c.loop-p.p-index n c.p-item.result c.loop-p-test.true c.p-item.is inv.0 inv.1 e in (
             w.list-is ∙ step ∙ ap (λ (k : ℕ). window m c.args.l c.args.u (take (c.loop-p.p-index + 1) ps) ++ drop k was) (sym w.count-is),
             w.count-is ∙ more,
             omega (arith, w.count-is),
           )
-      | else-is-inside w ↦
-          let e = sym t ∙ w.if-is-inside.false in
+      | else-is_inside w ↦
+          let e = sym t ∙ w.if-is_inside.false in
           let step = list_same (λ q. inside m c.args.l c.args.u q.key.at) ps was c.loop-p.list c.loop-p.p-index n c.p-item.result c.loop-p-test.true c.p-item.is inv.0 inv.1 e in (
             w.list-is ∙ inv.0 ∙ ap (λ l. l ++ drop n was) (sym step) ∙ ap (λ (k : ℕ). window m c.args.l c.args.u (take (c.loop-p.p-index + 1) ps) ++ drop k was) (sym w.count-is),
             w.count-is ∙ inv.1 ∙ ap length (sym step),

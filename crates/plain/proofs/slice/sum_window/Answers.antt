@@ -5,7 +5,7 @@ use Rattle.sums.specs.Sum.{sum_from}
 use Rattle.plain.specs.Windows.{inside, window, total}
 use Rattle.plain.proofs.Scans.{taken, passed}
 use Rattle.plain.proofs.slice.sum_window.Goals as goal
-use Rattle.plain.proofs.slice.sum_window.Goals.{then-is-inside, else-is-inside}
+use Rattle.plain.proofs.slice.sum_window.Goals.{then-is_inside, else-is_inside}
 
 pub loop-p-preserved : goal.loop-p-preserved
 loop-p-preserved g c =
@@ -14,17 +14,17 @@ loop-p-preserved g c =
     let ps = c.args.points.now in
     let i = c.loop-p.p-index in
     let p = c.p-item.result in
-    let t = c.is-inside.ensures in
-    elim c.if-is-inside.branch [
-      | then-is-inside w ↦
-          let e = taken (λ q. inside m c.args.l c.args.u q.key.at) ps i p c.loop-p-test.true c.p-item.is (sym t ∙ w.if-is-inside.true) in (
+    let t = c.is_inside.ensures in
+    elim c.if-is_inside.branch [
+      | then-is_inside w ↦
+          let e = taken (λ q. inside m c.args.l c.args.u q.key.at) ps i p c.loop-p-test.true c.p-item.is (sym t ∙ w.if-is_inside.true) in (
             ap (λ (s : Float). sum_from s (map (λ q. n q.weight) (window m c.args.l c.args.u (drop (i + 1) ps)))) (w.sum-is ∙ w.plus-sum.ensures)
                 ∙ sym (ap (λ l. sum_from c.loop-p.sum (map (λ q. n q.weight) l)) e) ∙ c.loop-p.invariant.0,
             omega (arith, ap length e, c.loop-p.invariant.1, w.count-is),
             omega (arith, c.loop-p.invariant.2, w.count-is),
           )
-      | else-is-inside w ↦
-          let e = passed (λ q. inside m c.args.l c.args.u q.key.at) ps i p c.loop-p-test.true c.p-item.is (sym t ∙ w.if-is-inside.false) in (
+      | else-is_inside w ↦
+          let e = passed (λ q. inside m c.args.l c.args.u q.key.at) ps i p c.loop-p-test.true c.p-item.is (sym t ∙ w.if-is_inside.false) in (
             ap (λ (s : Float). sum_from s (map (λ q. n q.weight) (window m c.args.l c.args.u (drop (i + 1) ps)))) w.sum-is
                 ∙ sym (ap (λ l. sum_from c.loop-p.sum (map (λ q. n q.weight) l)) e) ∙ c.loop-p.invariant.0,
             omega (arith, ap length e, c.loop-p.invariant.1, w.count-is),

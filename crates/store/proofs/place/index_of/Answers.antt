@@ -6,11 +6,11 @@ use Rattle.plain.specs.Set.{weight_at}
 use Rattle.store.proofs.Scans.{weight-pass, weight-stop, remove-pass, remove-stop, reweigh-pass, reweigh-set}
 use Rattle.store.proofs.place.index_of.Goals as goal
 
-pub returns-then-is-eq : goal.returns-then-is-eq
-returns-then-is-eq c =
+pub returns-then-is_eq : goal.returns-then-is_eq
+returns-then-is_eq c =
     let ps = c.args.points.now in
     let lt = c.loop-i-test.true in
-    let e = sym (c.if-is-eq.ensures ∙ ap is_eq c.key-order.ensures) in
+    let e = sym (c.if-is_eq.ensures ∙ ap is_eq c.key_order.ensures) in
     record {
       within = lt;
       found = ap is_some (weight-stop ps c.loop-i.i _ lt c.args.key e c.loop-i.invariant.0);
@@ -22,7 +22,7 @@ pub loop-i-preserved : goal.loop-i-preserved
 loop-i-preserved c =
     let ps = c.args.points.now in
     let lt = c.loop-i-test.true in
-    let e = sym (c.if-is-eq.ensures ∙ ap is_eq c.key-order.ensures) in (
+    let e = sym (c.if-is_eq.ensures ∙ ap is_eq c.key_order.ensures) in (
       weight-pass ps c.loop-i.i _ lt c.args.key e c.loop-i.invariant.0,
       remove-pass ps c.loop-i.i _ lt c.args.key e c.loop-i.invariant.1,
       λ w. reweigh-pass ps c.loop-i.i _ lt c.args.key w e (c.loop-i.invariant.2 w),
