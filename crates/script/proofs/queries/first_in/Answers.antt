@@ -7,14 +7,14 @@ use Rattle.script.specs.Replies.{told}
 use Rattle.script.proofs.Joins.{listed-fits, listed-front}
 use Rattle.script.proofs.queries.first_in.Goals as goal
 
-pub slice-bounds-put-first-end : goal.slice-bounds-put-first-end
-slice-bounds-put-first-end c =
+pub slice_bounds-put_first-end : goal.slice_bounds-put_first-end
+slice_bounds-put_first-end c =
     let h : c.in-Ok.n ≤ length c.args.list.now = listed-fits _ _ (window small c.args.lo c.args.hi (points_of c.args.set.now)) c.in-Ok.ensures.1 in
     search rules
 
-pub returns-in-ok-put-first : goal.returns-in-ok-put-first
-returns-in-ok-put-first c =
+pub returns-in_ok-put_first-in-Ok : goal.returns-in_ok-put_first-in-Ok
+returns-in_ok-put_first-in-Ok c =
     let l = c.in-Ok.ensures in
     let ps = firsts small (length c.args.list.now) c.args.lo c.args.hi (points_of c.args.set.now) in
-    c.in-ok-put-first.ensures
+    c.in_ok-put_first-in-Ok.ensures
     ∙ ap (λ t. vec_items c.args.out.now ++ t) (ap first_text (listed-front _ ps _ _ l.1 l.2) ∙ ap (λ q. told q (first_text ps)) (sym l.0))

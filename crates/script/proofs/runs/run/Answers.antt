@@ -9,12 +9,12 @@ use Rattle.script.proofs.runs.run.Goals as goal
 pub loop-rest-preserved-then-n-rest : goal.loop-rest-preserved-then-n-rest
 loop-rest-preserved-then-n-rest c =
     let inv = c.loop-rest.invariant.0 in
-    let r = c.in-ok-reply.ensures in
-    let len = c.line-len-n.ensures in (
+    let r = c.in_ok-reply.ensures in
+    let len = c.line_len-n.ensures in (
       (
         inv.0 ++ r.0,
         two-puts (vec_items c.args.out.now) _ _ inv.0 r.0 inv.1 r.2,
-        λ os h. next-line _ c.loop-rest.rest.now inv.0 r.0 _ _ c.line-len-n.result len.before r.1 inv.2 os c.if-n-rest.true (len.found c.if-n-rest.true) h,
+        λ os h. next-line _ c.loop-rest.rest.now inv.0 r.0 _ _ c.line_len-n.result len.before r.1 inv.2 os c.if-n-rest.true (len.found c.if-n-rest.true) h,
       ),
       simp (length-take, length-drop) (omega (arith, c.loop-rest.invariant.1)),
     )
@@ -22,12 +22,12 @@ loop-rest-preserved-then-n-rest c =
 pub loop-rest-preserved : goal.loop-rest-preserved
 loop-rest-preserved c =
     let inv = c.loop-rest.invariant.0 in
-    let r = c.in-ok-reply.ensures in
-    let len = c.line-len-n.ensures in (
+    let r = c.in_ok-reply.ensures in
+    let len = c.line_len-n.ensures in (
       (
         inv.0 ++ r.0,
         two-puts (vec_items c.args.out.now) _ _ inv.0 r.0 inv.1 r.2,
-        λ os h. last_line _ c.loop-rest.rest.now inv.0 r.0 _ _ c.line-len-n.result len.before r.1 inv.2 os c.loop-rest-test.true c.if-n-rest.false h,
+        λ os h. last_line _ c.loop-rest.rest.now inv.0 r.0 _ _ c.line_len-n.result len.before r.1 inv.2 os c.loop-rest-test.true c.if-n-rest.false h,
       ),
       simp (length-take, length-drop) (omega (arith, c.loop-rest.invariant.1)),
     )

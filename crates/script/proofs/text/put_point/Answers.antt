@@ -8,6 +8,6 @@ pub returns : goal.returns
 returns c =
     let p = c.args.p in
     three-puts _ _ _ _ (decimal p.key.at ++ (codes " " ++ (decimal p.key.number ++ codes " "))) (pattern_text (pattern p.weight)) (codes "\n")
-    (put_is _ _ _ _ c.in-ok-put.ensures (c.as-bytes.ensures.value ∙ c.in-ok-front.ensures.ok))
-    (put_is _ _ _ _ c.in-ok-put-2.ensures (c.pattern-text-bits.ensures ∙ ap pattern_text c.record.ensures))
-    c.in-ok-put-3.ensures
+    (put_is _ _ _ _ c.in_ok-put.ensures (c.as_bytes.ensures.value ∙ c.in_ok-front.ensures.ok))
+    (put_is _ _ _ _ c.in_ok-put-2.ensures (c.pattern_text-bits.ensures ∙ ap pattern_text c.record.ensures))
+    c.in_ok-put-3.ensures

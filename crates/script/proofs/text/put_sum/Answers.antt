@@ -7,6 +7,6 @@ use Rattle.script.proofs.text.put_sum.Goals as goal
 pub returns : goal.returns
 returns c =
     three-puts _ _ _ _ (codes "sum ") (pattern_text (pattern c.args.sum)) (codes " " ++ (decimal c.args.count ++ codes "\n"))
-    c.in-ok-put.ensures
-    (put_is _ _ _ _ c.in-ok-put-2.ensures (c.pattern-text-bits.ensures ∙ ap pattern_text c.record.ensures))
-    (put_is _ _ _ _ c.in-ok-put-3.ensures (c.as-bytes.ensures.value ∙ c.in-ok-rest.ensures.ok))
+    c.in_ok-put.ensures
+    (put_is _ _ _ _ c.in_ok-put-2.ensures (c.pattern_text-bits.ensures ∙ ap pattern_text c.record.ensures))
+    (put_is _ _ _ _ c.in_ok-put-3.ensures (c.as_bytes.ensures.value ∙ c.in_ok-rest.ensures.ok))

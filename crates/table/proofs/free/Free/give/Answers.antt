@@ -6,8 +6,8 @@ use Rattle.table.proofs.Frames.{nth-set-same, nth-set-other}
 use Rattle.table.proofs.Places.{chained-few, give-chained}
 use Rattle.table.proofs.free.Free.give.Goals as goal
 
-pub overflow-add-self : goal.overflow-add-self
-overflow-add-self g c = let f = chained-few c.args.nodes.now c.args.nodes.now c.args.self.now in let r = c.requires.room in search rules
+pub overflow_add-self : goal.overflow_add-self
+overflow_add-self g c = let f = chained-few c.args.nodes.now c.args.nodes.now c.args.self.now in let r = c.requires.room in search rules
 
 pub returns : goal.returns
 returns g c =
