@@ -1,4 +1,4 @@
 use Rattle.tree.proofs.keep.+take_out.Given as goal
 
-abbrev pub decreases-take-out : goal.decreases-take-out
-decreases-take-out g l = l.height
+abbrev pub decreases-take_out : goal.decreases-take_out
+decreases-take_out g l = l.height

@@ -5,7 +5,7 @@ use Rattle.std.proofs.ByRecursion.{All-get_or}
 use Rattle.table.specs.Kids.{kids_of}
 use Rattle.tree.proofs.Picks.{Best, best-start, best-new, best-old, best-all}
 use Rattle.tree.proofs.search.best_child.Goals as goal
-use Rattle.tree.proofs.search.best_child.Goals.{then-leads-over, else-leads-over}
+use Rattle.tree.proofs.search.best_child.Goals.{then-leads_over, else-leads_over}
 
 pub read-top-requires : goal.read-top-requires
 read-top-requires g c =
@@ -30,15 +30,15 @@ loop-i-preserved g c =
     let n = c.read-node.result in
     let lt : c.loop-i.i < length ps = omega arith in
     let is = subst (λ q. slice_get ns q ≡ Some n) c.at-in-loop-i.ensures c.read-node.ensures in
-    elim c.if-leads-over.branch [
-      | then-leads-over w ↦
-          let e = best-new m ns ps c.loop-i.best (kept_in m c.loop-i.top) c.loop-i.i lt c.loop-i.invariant.0 n is (sym c.leads-over.ensures ∙ w.if-leads-over.true) in (
-            subst (λ b. Best m ns ps b (kept_in m c.if-leads-over.top) (c.loop-i.i + 1)) (sym w.best-is) (subst (λ t. Best m ns ps c.loop-i.i (kept_in m t) (c.loop-i.i + 1)) (sym w.top-is) e),
+    elim c.if-leads_over.branch [
+      | then-leads_over w ↦
+          let e = best-new m ns ps c.loop-i.best (kept_in m c.loop-i.top) c.loop-i.i lt c.loop-i.invariant.0 n is (sym c.leads_over.ensures ∙ w.if-leads_over.true) in (
+            subst (λ b. Best m ns ps b (kept_in m c.if-leads_over.top) (c.loop-i.i + 1)) (sym w.best-is) (subst (λ t. Best m ns ps c.loop-i.i (kept_in m t) (c.loop-i.i + 1)) (sym w.top-is) e),
             subst (λ b. b < length ps) (sym w.best-is) lt,
           )
-      | else-leads-over w ↦
-          let e = best-old m ns ps c.loop-i.best (kept_in m c.loop-i.top) c.loop-i.i lt c.loop-i.invariant.0 n is (sym c.leads-over.ensures ∙ w.if-leads-over.false) in (
-            subst (λ b. Best m ns ps b (kept_in m c.if-leads-over.top) (c.loop-i.i + 1)) (sym w.best-is) (subst (λ t. Best m ns ps c.loop-i.best (kept_in m t) (c.loop-i.i + 1)) (sym w.top-is) e),
+      | else-leads_over w ↦
+          let e = best-old m ns ps c.loop-i.best (kept_in m c.loop-i.top) c.loop-i.i lt c.loop-i.invariant.0 n is (sym c.leads_over.ensures ∙ w.if-leads_over.false) in (
+            subst (λ b. Best m ns ps b (kept_in m c.if-leads_over.top) (c.loop-i.i + 1)) (sym w.best-is) (subst (λ t. Best m ns ps c.loop-i.best (kept_in m t) (c.loop-i.i + 1)) (sym w.top-is) e),
             subst (λ b. b < length ps) (sym w.best-is) c.loop-i.invariant.1,
           )
     ]

@@ -6,8 +6,8 @@ use Rattle.tree.specs.Places.{key_at}
 use Rattle.tree.proofs.Picks.{pick-start, pick-found, pick_more, pick_all}
 use Rattle.tree.proofs.search.pick_child.Goals as goal
 
-pub is-before-requires : goal.is-before-requires
-is-before-requires g c =
+pub is_before-requires : goal.is_before-requires
+is_before-requires g c =
     let lt : c.loop-i.i < length (kids_of c.args.children) = omega arith in
     subst (λ q. q < length c.args.nodes.now) (sym c.at.ensures) (All-get_or (λ q. q < length c.args.nodes.now) (kids_of c.args.children) c.loop-i.i 0 lt c.requires.within)
 
@@ -20,16 +20,16 @@ loop-i-preserved g c =
     let ns = c.args.nodes.now in
     let ps = kids_of c.args.children in
     let lt : c.loop-i.i < length ps = omega arith in
-    pick_more m ns c.args.key ps c.loop-i.i lt c.loop-i.auto.i c.loop-i.invariant c.is-before.result (c.is-before.ensures ∙ ap (λ q. is_before m c.args.key (key_at ns q)) c.at.ensures) c.if-is-before.false
+    pick_more m ns c.args.key ps c.loop-i.i lt c.loop-i.auto.i c.loop-i.invariant c.is_before.result (c.is_before.ensures ∙ ap (λ q. is_before m c.args.key (key_at ns q)) c.at.ensures) c.if-is_before.false
 
-pub returns-then-is-before : goal.returns-then-is-before
-returns-then-is-before g c =
+pub returns-then-is_before : goal.returns-then-is_before
+returns-then-is_before g c =
     let m = g.K.Kind.meaning in
     let ns = c.args.nodes.now in
     let ps = kids_of c.args.children in
     let lt : c.loop-i.i < length ps = omega arith in
     record {
-      is = pick-found m ns c.args.key ps c.loop-i.i lt c.loop-i.auto.i c.loop-i.invariant c.is-before.result (c.is-before.ensures ∙ ap (λ q. is_before m c.args.key (key_at ns q)) c.at.ensures) c.if-is-before.true;
+      is = pick-found m ns c.args.key ps c.loop-i.i lt c.loop-i.auto.i c.loop-i.invariant c.is_before.result (c.is_before.ensures ∙ ap (λ q. is_before m c.args.key (key_at ns q)) c.at.ensures) c.if-is_before.true;
       below = omega arith;
     }
 
