@@ -1,5 +1,7 @@
 // What the index asks of points: which of two coordinates is earlier, which of two weights is
 // stronger, and which are fit. Four kinds answer.
+#![tactic(auto)]
+
 mod code;
 mod kind;
 mod large;

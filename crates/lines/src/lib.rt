@@ -1,4 +1,6 @@
 // What a line of a script says: one command, or nothing.
+#![tactic(auto)]
+
 mod command;
 mod digits;
 mod fields;

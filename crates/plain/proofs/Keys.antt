@@ -1,5 +1,5 @@
 -- Key order is total, carries over, and ties only a key with itself.
-use Rattle.std.proofs.Common.{◌≡◌, ℕ, Bool, true, false, T, Ordering, Less, Equal, Greater, sym, refl, ap, ◌∙◌, subst, arith}
+use Rattle.std.proofs.Common.{◌≡◌, ℕ, true, false, T, Ordering, Less, Equal, Greater, sym, refl, ap, ◌∙◌, subst, arith}
 use Rattle.std.specs.Ordering.{is_le, is_eq, is_lt, ordering_reverse}
 use Rattle.kinds.specs.Order.{Preorder, Any}
 use Rattle.kinds.specs.Meaning.{Meaning, First}

@@ -1,5 +1,5 @@
 -- The laws of the plain set and of sums, from the laws of the kind.
-use Rattle.std.proofs.Common.{◌≡◌, ℕ, Bool, true, false, cond, T, List, [], ◌∷◌, map, is_some, Some, None, filter, Option, Ordering, Less, Greater, sym, refl, ap, ◌∙◌, subst, inl, inr, arith}
+use Rattle.std.proofs.Common.{◌≡◌, ℕ, Bool, true, false, cond, T, List, [], ◌∷◌, is_some, Some, None, Option, Ordering, Less, Greater, sym, refl, ap, ◌∙◌, inl, inr, arith}
 use lib.Ieee.{Float, nan, inf, fin, le}
 use Rattle.std.specs.Ordering.{is_eq, ordering_reverse}
 use Rattle.std.specs.List.{AllByRecursion as All}
@@ -13,9 +13,9 @@ use Rattle.sums.proofs.Grown as grown
 use Rattle.plain.specs.declared.point.Key.{Key}
 use Rattle.plain.specs.declared.point.Point.{Point}
 use Rattle.plain.specs.Points.{key_order, Before, FitPoint}
-use Rattle.plain.specs.Set.{Rising, AllFit, weight_at, stands}
-use Rattle.plain.specs.Windows.{window, total, One, Covered}
-use Rattle.plain.specs.Laws.{Orders, Keeps, Counts, Finds, SetLaws, SumsGrow}
+use Rattle.plain.specs.Set.{Rising, AllFit, weight_at}
+use Rattle.plain.specs.Windows.{window, One, Covered}
+use Rattle.plain.specs.Laws.{Orders, Keeps, Finds, SetLaws, SumsGrow}
 use Rattle.plain.proofs.Keys.{keys, tie, turned}
 use Rattle.plain.proofs.Sets.{rising-kept, rising-put, rising-remove, rising-reweigh, rising-push, after-all, fit-put, fit-remove, fit-reweigh, length-put, length-remove, length-reweigh, weight-put, weight-remove, weight-reweigh}
 

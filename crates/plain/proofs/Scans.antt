@@ -1,5 +1,5 @@
 -- A loop that passes over a list: what it takes, finds and lists.
-use Rattle.std.proofs.Common.{◌≡◌, ℕ, ◌+◌, ◌-◌, ◌<◌, ◌≤◌, Bool, true, false, cond, List, [], ◌∷◌, ◌++◌, length, get_or, take, drop, set, Some, filter, sym, refl, ap, ◌∙◌, append_assoc, append-nil, le_refl, arith, length-append, take-append-drop}
+use Rattle.std.proofs.Common.{◌≡◌, ℕ, ◌+◌, ◌-◌, ◌<◌, Bool, true, false, cond, List, [], ◌∷◌, ◌++◌, length, get_or, take, drop, set, Some, filter, sym, ap, ◌∙◌, append_assoc, append-nil, le_refl, arith, length-append, take-append-drop}
 use Rattle.std.specs.Ordering.{is_eq}
 use Rattle.std.proofs.lemmas.List.Elements.{filter_more, filter-append}
 use Rattle.std.proofs.lemmas.List.{at_drop_more, drop_more, set-append_right, take-append-le, take_all}

@@ -1,5 +1,5 @@
 -- What put, remove and reweigh keep and change.
-use Rattle.std.proofs.Common.{◌≡◌, ℕ, suc, ◌+◌, ◌≤◌, Bool, true, false, cond, T, List, [], ◌∷◌, ◌++◌, length, is_some, Some, None, filter, Option, Less, sym, refl, ap, ◌∙◌, subst, arith}
+use Rattle.std.proofs.Common.{◌≡◌, suc, Bool, true, false, cond, T, List, [], ◌∷◌, ◌++◌, length, is_some, Some, None, filter, Option, sym, refl, ap, ◌∙◌, subst}
 use Rattle.std.specs.Ordering.{is_lt, is_eq}
 use Rattle.std.specs.List.{AllByRecursion as All}
 use Rattle.std.proofs.ByRecursion.{All-weaker, all_kept_by}
@@ -9,7 +9,7 @@ use Rattle.plain.specs.declared.point.Key.{Key}
 use Rattle.plain.specs.declared.point.Point.{Point}
 use Rattle.plain.specs.Points.{key_order, Before, FitPoint}
 use Rattle.plain.specs.Set.{Rising, AllFit, weight_at, stands, put, remove, reweigh, not_after_last}
-use Rattle.plain.proofs.Keys.{tie, same, turned, before-carries, after, apart, apart-back, lt-less, eq-equal}
+use Rattle.plain.proofs.Keys.{tie, same, before-carries, after, apart, lt-less, eq-equal}
 
 -- a filter keeps what rises
 pub rising-kept : {C W R : Type 0} (m : Meaning C W R) (test : Point C W → Bool) (ps : List (Point C W)) → Rising m ps → Rising m (filter test ps)

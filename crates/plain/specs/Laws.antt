@@ -1,5 +1,5 @@
 -- The laws of the two orders, of the plain set, and of sums.
-use Rattle.std.specs.Prelude.{◌≡◌, ℕ, suc, true, false, cond, T, List, [], ◌∷◌, ◌++◌, length, Some, None, Float}
+use Rattle.std.specs.Prelude.{◌≡◌, suc, true, false, cond, T, List, [], ◌∷◌, ◌++◌, length, Some, None, Float}
 use Rattle.std.specs.declared.cmp.Ordering.TheVariants.{Equal}
 use Rattle.std.specs.Float.Ieee.{le}
 use Rattle.std.specs.Ordering.{is_eq}

@@ -1,4 +1,6 @@
 // The plain set: points in key order. What every call of an index is measured by.
+#![tactic(auto)]
+
 mod order;
 mod point;
 mod slice;

@@ -1,4 +1,6 @@
 // Why a call is refused, and the numbers by which callers know it.
+#![tactic(auto)]
+
 ghost use Rattle.std.specs.Prelude.{◌≡◌};
 ghost use Rattle.refusals.specs.Refusals.{number_of};
 

@@ -1,4 +1,6 @@
 // A script of lines, run on residuals of kind small, and what it prints.
+#![tactic(auto)]
+
 mod changes;
 mod commands;
 mod lists;

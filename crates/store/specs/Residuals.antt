@@ -1,5 +1,5 @@
 -- The residuals as a plain set, and what calls make of it.
-use Rattle.std.specs.Prelude.{◌≡◌, ℕ, ◌<◌, true, List, ◌++◌, length, drop, set, Some, None, Ok, Err, vec_items, Option, Result, slice_index_or, slice_set, Float}
+use Rattle.std.specs.Prelude.{◌≡◌, ℕ, ◌<◌, true, List, ◌++◌, length, drop, Some, None, Ok, Err, vec_items, Option, Result, slice_index_or, slice_set, Float}
 use Rattle.std.specs.List.{remove as removed}
 use Rattle.kinds.specs.Kinds.{small}
 use Rattle.refusals.specs.declared.Refusal.{Refusal}

@@ -1,4 +1,6 @@
 // Residuals of kind small, kept in key order in one vector.
+#![tactic(auto)]
+
 mod checks;
 mod failure;
 mod place;

@@ -1,5 +1,5 @@
 -- Of two lists in the order of their keys, the one that has the other's keys, at numbers no smaller, has a sum no smaller.
-use Rattle.std.proofs.Common.{◌≡◌, T, ◌⊎◌, List, [], ◌∷◌, map, sym, refl, subst, inl, inr}
+use Rattle.std.proofs.Common.{◌≡◌, T, ◌⊎◌, List, [], ◌∷◌, map, sym, subst, inl, inr}
 use lib.Ieee.{Float, binary32, add, le, of_bits, fits}
 use lib.Ieee.Fits.{add-fits}
 use lib.Ieee.Bits.{of_bits-fits}

@@ -1,4 +1,6 @@
 // Sums of binary32 numbers in a given order, and how they grow.
+#![tactic(auto)]
+
 ghost use Rattle.sums.specs.Sum.{WorkedSums};
 
 // Computes nothing: some sums, worked by hand, are what the definition says.

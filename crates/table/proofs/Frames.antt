@@ -1,8 +1,8 @@
 -- Two tables that agree wherever a tree has a node hold the same tree.
-use Rattle.std.proofs.Common.{◌≡◌, ℕ, zero, suc, ◌+◌, ◌<◌, ◌≤◌, List, [], ◌∷◌, ◌++◌, length, get_or, take, drop, set, Some, None, Option, sym, refl, ap, ◌∙◌, subst, arith, eq-eqb, ne_eqb}
+use Rattle.std.proofs.Common.{◌≡◌, ℕ, zero, suc, ◌+◌, ◌<◌, List, [], ◌∷◌, ◌++◌, length, get_or, take, drop, set, Some, None, Option, sym, refl, ap, ◌∙◌, subst, arith, eq-eqb, ne_eqb}
 use Rattle.std.specs.List.{slice_get}
 use Rattle.kinds.specs.Meaning.{Meaning}
-use Rattle.trees.specs.Tree.{Tree, Forest, gone, leaf, fork, none, more, grow, hit, uses, uses_all, count, nth_tree, places_of, place_of, front, back, ◌⊕◌}
+use Rattle.trees.specs.Tree.{Tree, Forest, fork, more, grow, hit, uses, uses_all, count, nth_tree, places_of, place_of, front, back, ◌⊕◌}
 use Rattle.trees.specs.Moves.{exchange}
 use Rattle.table.specs.declared.node.Node.{Node}
 use Rattle.table.specs.Kids.{kids_of}

@@ -1,5 +1,5 @@
 -- Free places: how one is taken, and how one is given back.
-use Rattle.std.proofs.Common.{◌≡◌, ℕ, zero, suc, ◌+◌, ◌-◌, ◌<◌, ◌≤◌, List, [], ◌∷◌, ◌++◌, length, set, Some, None, sym, refl, ap, ◌∙◌, subst, arith, length-append}
+use Rattle.std.proofs.Common.{◌≡◌, ℕ, zero, suc, ◌+◌, ◌-◌, ◌<◌, ◌≤◌, List, [], ◌∷◌, ◌++◌, length, Some, sym, refl, ap, ◌∙◌, arith, length-append}
 use Rattle.std.specs.List.{slice_get, AllByRecursion as All}
 use Rattle.table.specs.declared.node.Node.{Node}
 use Rattle.table.specs.declared.free.Free.{Free}

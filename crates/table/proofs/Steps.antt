@@ -1,5 +1,5 @@
 -- From the table to the tree: what is known of a sound tree, and a node written again after the tree of one child has changed.
-use Rattle.std.proofs.Common.{◌≡◌, ℕ, zero, suc, ◌+◌, ◌<◌, ◌≤◌, Bool, true, false, cond, ltb, List, [], ◌∷◌, ◌++◌, length, get_or, set, Some, None, Option, sym, refl, ap, ◌∙◌, subst, arith, ltb-true}
+use Rattle.std.proofs.Common.{◌≡◌, ℕ, zero, suc, ◌+◌, ◌<◌, ◌≤◌, Bool, true, false, cond, ltb, List, [], ◌∷◌, length, get_or, set, Some, None, Option, refl, ap, ◌∙◌, subst, arith, ltb-true}
 use Rattle.std.specs.List.{slice_get, AllByRecursion as All}
 use Rattle.std.proofs.ByRecursion.{All-from_get_or}
 use Rattle.kinds.specs.Meaning.{Meaning}
@@ -8,7 +8,7 @@ use Rattle.trees.specs.Rules.{Level, LevelAll, Degrees, DegreesAll}
 use Rattle.table.specs.declared.node.Node.{Node}
 use Rattle.table.specs.Kids.{kids_of}
 use Rattle.table.specs.Reading.{key_in, point_in, kept_in, leaf_of, fork_of, tree_at, inside, Sound, Sounds, Became}
-use Rattle.table.proofs.Frames.{nth-set-same, nth-set-other, hit-here, hit-apart, not_there, count-grow, nth-grow, place_at, same-tree, same-trees}
+use Rattle.table.proofs.Frames.{nth-set-same, nth-set-other, hit-here, not_there, count-grow, nth-grow, place_at, same-tree, same-trees}
 
 -- ---- places inside the table
 pub inside-lt : (n q : ℕ) → 0 < inside n q → q < n

@@ -6,7 +6,7 @@ use Rattle.std.specs.List.{slice_get}
 use Rattle.kinds.specs.Meaning.{Meaning}
 use Rattle.plain.specs.declared.point.Key.{Key}
 use Rattle.plain.specs.declared.point.Point.{Point}
-use Rattle.trees.specs.Tree.{Tree, Forest, none, more, grow, key_of, kept_by}
+use Rattle.trees.specs.Tree.{grow, key_of, kept_by}
 use Rattle.trees.specs.Kept.{is_before, leads, run, pick, best_from, best}
 use Rattle.table.specs.declared.node.Node.{Node}
 use Rattle.table.specs.Reading.{leaf_of, fork_of, tree_at, kept_in}

@@ -1,13 +1,11 @@
 -- The point that a node keeps goes: in the table, as in the tree.
-use Rattle.std.proofs.Common.{◌≡◌, ℕ, zero, suc, ◌-◌, ◌<◌, Bool, true, false, cond, List, length, get_or, set, is_some, Some, None, Option, sym, refl, ap, ◌∙◌, subst, arith}
+use Rattle.std.proofs.Common.{◌≡◌, ℕ, suc, ◌<◌, Bool, true, false, cond, List, length, get_or, set, is_some, Some, None, sym, refl, ap, ◌∙◌, subst}
 use Rattle.std.specs.List.{slice_get}
 use Rattle.kinds.specs.Meaning.{Meaning}
-use Rattle.plain.specs.declared.point.Point.{Point}
-use Rattle.trees.specs.Tree.{Tree, Forest, leaf, fork, nth_tree, kept_by, alter, uses}
-use Rattle.trees.specs.Kept.{best, pull}
+use Rattle.trees.specs.Tree.{Tree, leaf, fork, nth_tree, kept_by, alter, uses}
+use Rattle.trees.specs.Kept.{pull}
 use Rattle.trees.proofs.Bares.{alike-uses, pull-bare}
 use Rattle.table.specs.declared.node.Node.{Node}
-use Rattle.table.specs.declared.node.Stored.{Stored}
 use Rattle.table.specs.Reading.{key_in, point_in, kept_in, leaf_of, tree_at, Sound, Became}
 use Rattle.table.proofs.Frames.{nth-grow}
 use Rattle.table.proofs.Steps.{kids, below, fork-was, leaf-became, own-became, child-became}

@@ -1,12 +1,12 @@
 -- Points move towards their leaves, and leaves are weighed: in the table, as in the tree.
-use Rattle.std.proofs.Common.{◌≡◌, ℕ, zero, suc, ◌-◌, ◌<◌, Bool, true, false, cond, List, length, get_or, set, Some, None, Option, sym, refl, ap, ◌∙◌, subst}
+use Rattle.std.proofs.Common.{◌≡◌, ℕ, suc, ◌<◌, Bool, true, false, cond, List, length, get_or, set, Some, None, Option, sym, refl, ap, ◌∙◌, subst}
 use Rattle.std.specs.List.{slice_get}
 use Rattle.std.specs.Ordering.{is_lt}
 use Rattle.kinds.specs.Meaning.{Meaning}
 use Rattle.plain.specs.declared.point.Key.{Key}
 use Rattle.plain.specs.declared.point.Point.{Point}
 use Rattle.plain.specs.Points.{rank_order}
-use Rattle.trees.specs.Tree.{Tree, Forest, leaf, fork, nth_tree, alter, uses}
+use Rattle.trees.specs.Tree.{Tree, fork, alter, uses}
 use Rattle.trees.specs.Kept.{pick, pull, push, has_key, take_out, weigh}
 use Rattle.trees.proofs.Bares.{alike-uses, push-bare, take_bare, weigh-bare}
 use Rattle.table.specs.declared.node.Node.{Node}

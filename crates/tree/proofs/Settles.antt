@@ -1,25 +1,23 @@
 -- Nodes laid over trees, and points that find their place in them: in the table, as in the tree.
-use Rattle.std.proofs.Common.{◌≡◌, ℕ, zero, suc, ◌+◌, ◌-◌, ◌<◌, ◌≤◌, Bool, true, false, cond, eqb, ◌⊎◌, List, [], ◌∷◌, length, get_or, set, Some, None, Option, unwrap_or, sym, refl, ap, ◌∙◌, subst, inl, inr, arith, eqb-true}
+use Rattle.std.proofs.Common.{◌≡◌, ℕ, suc, ◌+◌, ◌<◌, ◌≤◌, Bool, true, false, cond, eqb, ◌⊎◌, List, [], ◌∷◌, length, get_or, set, Some, None, unwrap_or, sym, refl, ap, ◌∙◌, subst, inl, inr, arith, eqb-true}
 use borrow.Author.Tests.{lt-true}
 use Rattle.std.specs.List.{slice_get, AllByRecursion as All}
 use Rattle.std.proofs.ByRecursion.{All-from_get_or}
 use Rattle.kinds.specs.Meaning.{Meaning}
 use Rattle.plain.specs.declared.point.Key.{Key}
 use Rattle.plain.specs.declared.point.Point.{Point}
-use Rattle.trees.specs.Tree.{Tree, Forest, fork, none, more, grow, count, hit, uses, uses_all, key_of, alter}
-use Rattle.trees.specs.Kept.{pick, pull, push}
-use Rattle.trees.specs.Moves.{first_key, settled, seated}
+use Rattle.trees.specs.Tree.{fork, grow, hit, uses, uses_all, alter}
+use Rattle.trees.specs.Kept.{pull, push}
+use Rattle.trees.specs.Moves.{first_key, settled}
 use Rattle.table.specs.declared.node.Node.{Node}
-use Rattle.table.specs.declared.node.Stored.{Stored}
 use Rattle.table.specs.declared.children.Children.{Children}
 use Rattle.table.specs.Kids.{kids_of}
-use Rattle.table.specs.Reading.{key_in, point_in, kept_in, tree_at, inside, Sound, Sounds, Became}
-use Rattle.table.proofs.Frames.{nth-set-same, nth-set-other, hit-here, not_there, nth-grow, count-grow, same-trees}
-use Rattle.table.proofs.Steps.{inside-lt, inside_one, sound-nth, sound-within, uses-nth, alter-grow, fork-now, other}
+use Rattle.table.specs.Reading.{key_in, tree_at, inside, Sound, Sounds, Became}
+use Rattle.table.proofs.Frames.{hit-here, nth-grow, count-grow}
+use Rattle.table.proofs.Steps.{inside_one, sound-nth, sound-within, uses-nth, alter-grow, fork-now, other}
 use Rattle.tree.specs.Nodes.{bare}
 use Rattle.tree.specs.Places.{key_of_node, pick_at}
-use Rattle.tree.specs.Forests.{Laid, Seated}
-use Rattle.tree.proofs.Heights.{up}
+use Rattle.tree.specs.Forests.{Seated}
 use Rattle.tree.proofs.Picks.{key-tree, pick-tree}
 
 module _ {C W R : Type 0} (m : Meaning C W R) where

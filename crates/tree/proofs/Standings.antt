@@ -1,10 +1,9 @@
 -- What is known of every tree that stands in a table.
-use Rattle.std.proofs.Common.{◌≡◌, ℕ, ◌+◌, ◌*◌, ◌^◌, ◌<◌, ◌≤◌, eqb, List, [], length, sym, ap, ◌∙◌, subst, arith, length-append, ne_eqb}
+use Rattle.std.proofs.Common.{◌≡◌, ◌+◌, ◌<◌, eqb, List, [], length, sym, ap, ◌∙◌, subst, arith, length-append, ne_eqb}
 use base.Stored.{Coded}
 use Rattle.std.proofs.lemmas.Bool.{cond-false}
 use Rattle.kinds.specs.Meaning.{Meaning, First, Second}
-use Rattle.trees.specs.Tree.{Tree, Forest, none, more, points, points_all, size_all}
-use Rattle.trees.specs.Rules.{Rules}
+use Rattle.trees.specs.Tree.{none, more, points, points_all, size_all}
 use Rattle.shapes.specs.Shape.{Holds}
 use Rattle.shapes.specs.Settles.{Whole}
 use Rattle.shapes.proofs.Counts.{points-least, size-most}
@@ -12,7 +11,7 @@ use Rattle.shapes.proofs.Wholes.{whole-rules, rules-whole}
 use Rattle.table.specs.declared.node.Node.{Node}
 use Rattle.table.specs.declared.header.Header.{Header}
 use Rattle.table.specs.Reading.{tree_at}
-use Rattle.tree.specs.Standing.{forest_of, Standing, Ruled}
+use Rattle.tree.specs.Standing.{forest_of}
 use Rattle.tree.specs.Theorems.{FewNodes, RulesHold}
 
 module _ {C W R : Type 0} (m : Meaning C W R) where

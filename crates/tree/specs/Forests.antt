@@ -4,7 +4,7 @@ use Rattle.std.specs.List.{slice_get}
 use Rattle.kinds.specs.Meaning.{Meaning}
 use Rattle.plain.specs.declared.point.Key.{Key}
 use Rattle.plain.specs.declared.point.Point.{Point}
-use Rattle.trees.specs.Tree.{Tree, Forest, grow, hit, uses_all}
+use Rattle.trees.specs.Tree.{grow, hit, uses_all}
 use Rattle.trees.specs.Moves.{settled, seated}
 use Rattle.table.specs.declared.node.Node.{Node}
 use Rattle.table.specs.Reading.{tree_at}

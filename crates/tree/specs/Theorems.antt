@@ -1,5 +1,5 @@
 -- What is known of every tree that stands in a table.
-use Rattle.std.specs.Prelude.{ℕ, ◌+◌, ◌*◌, ◌^◌, ◌<◌, ◌≤◌, List}
+use Rattle.std.specs.Prelude.{◌+◌, ◌*◌, ◌^◌, ◌<◌, ◌≤◌, List}
 use Rattle.kinds.specs.Meaning.{Meaning}
 use Rattle.trees.specs.Tree.{size_all}
 use Rattle.trees.specs.Rules.{Rules}

@@ -1,4 +1,6 @@
 // The tree in a table of nodes: search, and the points that its nodes keep.
+#![tactic(auto)]
+
 pub mod keep;
 pub mod search;
 pub mod settle;

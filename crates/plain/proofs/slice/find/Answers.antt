@@ -1,8 +1,6 @@
-use Rattle.std.proofs.Common.{◌≡◌, ◌+◌, cond, drop, Some, sym, ap, ◌∙◌}
+use Rattle.std.proofs.Common.{sym, ap, ◌∙◌}
 use Rattle.std.specs.Ordering.{is_eq}
-use Rattle.std.proofs.lemmas.List.{at_drop_more, at_drop_all}
-use Rattle.std.proofs.lemmas.Bool.{cond-true, cond-false}
-use Rattle.plain.specs.Points.{key_order}
+use Rattle.std.proofs.lemmas.List.{at_drop_all}
 use Rattle.plain.specs.Set.{weight_at}
 use Rattle.plain.proofs.Scans.{found, not_found}
 use Rattle.plain.proofs.slice.find.Goals as goal

@@ -1,5 +1,5 @@
-use Rattle.std.proofs.Common.{◌≡◌, ℕ, ◌+◌, ◌<◌, ◌≤◌, ◌++◌, length, take, drop, sym, ap, ◌∙◌, subst, arith, take_all}
-use Rattle.plain.specs.Windows.{inside, window, firsts}
+use Rattle.std.proofs.Common.{◌≡◌, ℕ, ◌+◌, ◌<◌, ◌++◌, length, take, drop, sym, ap, ◌∙◌, arith, take_all}
+use Rattle.plain.specs.Windows.{inside, window}
 use Rattle.plain.proofs.Scans.{list-more, count-more, list_same, list_full}
 use Rattle.plain.proofs.slice.list_first.Goals as goal
 use Rattle.plain.proofs.slice.list_first.Goals.{then-is_inside, else-is_inside}

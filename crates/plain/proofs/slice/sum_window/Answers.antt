@@ -1,4 +1,4 @@
-use Rattle.std.proofs.Common.{◌≡◌, ℕ, ◌+◌, true, false, [], map, length, drop, sym, refl, ap, ◌∙◌, subst, arith}
+use Rattle.std.proofs.Common.{◌≡◌, ◌+◌, map, length, drop, sym, ap, ◌∙◌, arith}
 use lib.Ieee.{Float}
 use Rattle.std.proofs.lemmas.List.{at_drop_all}
 use Rattle.sums.specs.Sum.{sum_from}

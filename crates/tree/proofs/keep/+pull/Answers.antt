@@ -1,11 +1,9 @@
-use Rattle.std.proofs.Common.{◌≡◌, ℕ, ◌-◌, ◌<◌, length, get_or, set, Some, sym, ap, ◌∙◌, subst, arith}
+use Rattle.std.proofs.Common.{◌≡◌, ◌-◌, length, Some, sym, subst, arith}
 use Rattle.std.specs.List.{slice_get}
-use Rattle.table.specs.Kids.{kids_of}
 use Rattle.table.specs.Reading.{tree_at, Sound, Became}
 use Rattle.table.proofs.Steps.{sound-within, kids-some, kids-within, kid-sound}
 use Rattle.tree.proofs.Heights.{sound-up, became-up}
 use Rattle.trees.specs.Kept.{pull}
-use Rattle.tree.specs.Nodes.{keeping}
 use Rattle.tree.proofs.Pulls.{pull-leaf, pull-stop, pull-on}
 use Rattle.tree.proofs.keep.+pull.Goals as goal
 

@@ -1,12 +1,10 @@
-use Rattle.std.proofs.Common.{◌≡◌, ℕ, ◌-◌, ◌<◌, length, get_or, set, Some, sym, ap, ◌∙◌, subst, arith}
-use Rattle.std.specs.List.{slice_get}
+use Rattle.std.proofs.Common.{◌-◌, length, sym, ap, ◌∙◌, subst, arith}
 use Rattle.table.specs.Kids.{kids_of}
 use Rattle.table.specs.Reading.{tree_at, Sound, Became}
 use Rattle.table.proofs.Steps.{sound-within, kids-some, kids-within, kid-sound}
 use Rattle.tree.proofs.Heights.{sound-up, became-up}
 use Rattle.trees.specs.Kept.{push}
-use Rattle.table.specs.Reading.{point_in, key_in}
-use Rattle.tree.specs.Nodes.{keeping}
+use Rattle.table.specs.Reading.{point_in}
 use Rattle.tree.specs.Places.{pick_at}
 use Rattle.tree.proofs.Pushes.{push-leaf, push-empty, push-on}
 use Rattle.tree.proofs.keep.+push.Goals as goal

@@ -1,6 +1,4 @@
-use Rattle.std.proofs.Common.{◌≡◌, ℕ, ◌-◌, ◌<◌, length, get_or, set, Some, sym, ap, ◌∙◌, subst, arith}
-use Rattle.std.specs.List.{slice_get}
-use Rattle.table.specs.Kids.{kids_of}
+use Rattle.std.proofs.Common.{◌-◌, length, sym, ◌∙◌, subst, arith}
 use Rattle.table.specs.Reading.{tree_at, Sound, Became}
 use Rattle.table.proofs.Steps.{sound-within, kids-some, kids-within, kid-sound}
 use Rattle.tree.proofs.Heights.{up, sound-up, became-up}

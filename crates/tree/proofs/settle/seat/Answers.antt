@@ -1,4 +1,4 @@
-use Rattle.std.proofs.Common.{◌≡◌, length, get_or, sym, ap, ◌∙◌, subst}
+use Rattle.std.proofs.Common.{length, sym, ap, ◌∙◌, subst}
 use Rattle.trees.specs.Kept.{push}
 use Rattle.table.specs.Kids.{kids_of}
 use Rattle.table.specs.Reading.{point_in, tree_at, Sound, Became}

@@ -1,6 +1,6 @@
-use Rattle.std.proofs.Common.{◌≡◌, ℕ, suc, ◌-◌, ◌<◌, length, get_or, set, Some, sym, ap, ◌∙◌, subst, arith, length-set}
+use Rattle.std.proofs.Common.{◌≡◌, suc, ◌-◌, ◌<◌, length, get_or, set, Some, sym, ap, ◌∙◌, subst, arith, length-set}
 use Rattle.std.specs.List.{slice_get}
-use Rattle.trees.specs.Tree.{grow, hit, uses_all}
+use Rattle.trees.specs.Tree.{grow}
 use Rattle.trees.specs.Kept.{pull}
 use Rattle.trees.specs.Moves.{settled}
 use Rattle.table.specs.Kids.{kids_of}
@@ -8,7 +8,6 @@ use Rattle.table.specs.Reading.{tree_at, Sound, Became}
 use Rattle.table.proofs.Cases.{few}
 use Rattle.table.proofs.Steps.{sound-within}
 use Rattle.tree.specs.Nodes.{bare}
-use Rattle.tree.specs.Forests.{Laid}
 use Rattle.tree.proofs.Settles.{tree-sound, laid-sound, laid-over, laid-frame}
 use Rattle.tree.proofs.settle.settle.Goals as goal
 

@@ -1,4 +1,4 @@
-use Rattle.std.proofs.Common.{◌≡◌, ℕ, ◌+◌, ◌-◌, ◌<◌, ◌≤◌, ◌⊎◌, List, [], ◌∷◌, ◌++◌, length, get_or, take, drop, sym, refl, subst, inl, inr, arith}
+use Rattle.std.proofs.Common.{◌≡◌, ℕ, ◌-◌, ◌≤◌, ◌⊎◌, [], ◌∷◌, take, drop, sym, refl, subst, inl, inr, arith}
 use Rattle.table.specs.Kids.{kids_of}
 use Rattle.table.proofs.Cases.{by_count, few}
 use Rattle.table.proofs.children.Children.back.Goals as goal

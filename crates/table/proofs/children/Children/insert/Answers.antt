@@ -1,4 +1,4 @@
-use Rattle.std.proofs.Common.{◌≡◌, ℕ, ◌+◌, ◌-◌, ◌<◌, ◌≤◌, List, [], ◌∷◌, ◌++◌, length, get_or, take, drop, sym, refl, subst, arith}
+use Rattle.std.proofs.Common.{◌≡◌, ◌+◌, ◌<◌, ◌≤◌, [], ◌∷◌, ◌++◌, take, drop, sym, refl, subst, arith}
 use Rattle.table.specs.Kids.{kids_of}
 use Rattle.table.proofs.Cases.{by_count, few}
 use Rattle.table.proofs.children.Children.insert.Goals as goal

@@ -1,4 +1,4 @@
-use Rattle.std.proofs.Common.{◌≡◌, ℕ, ◌+◌, ◌<◌, ◌≤◌, ◌∷◌, length, set, Some, sym, ap, ◌∙◌, subst, length-set, rules}
+use Rattle.std.proofs.Common.{◌≡◌, ◌+◌, ◌∷◌, set, sym, ap, ◌∙◌, subst, length-set, rules}
 use Rattle.std.specs.List.{slice_get, AllByRecursion as All}
 use Rattle.std.proofs.ByRecursion.{All-weaker}
 use Rattle.table.specs.Spares.{spares}

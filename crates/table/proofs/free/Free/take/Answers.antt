@@ -1,4 +1,4 @@
-use Rattle.std.proofs.Common.{ℕ, ◌-◌, ◌<◌, ◌∷◌, length, sym, ap, ◌∙◌, subst, arith}
+use Rattle.std.proofs.Common.{ℕ, ◌-◌, ◌<◌, ◌∷◌, length, sym, ap, ◌∙◌, arith}
 use Rattle.table.specs.Spares.{spares}
 use Rattle.table.proofs.Places.{take-chained, take-fresh, head-within}
 use Rattle.table.proofs.free.Free.take.Goals as goal
