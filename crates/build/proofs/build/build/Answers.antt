@@ -8,8 +8,8 @@ use Rattle.build.proofs.build.build.Goals as goal
 pub loop-left-init : goal.loop-left-init
 loop-left-init g c = raising-starts g.K.Kind.meaning c.args.nodes.now c.args.count c.requires.room c.requires.leaves
 
-pub lay-level-made-requires : goal.lay-level-made-requires
-lay-level-made-requires g c =
+pub lay_level-made-requires : goal.lay_level-made-requires
+lay_level-made-requires g c =
     let m = g.K.Kind.meaning in
     let a = c.args.nodes.now in
     let n = c.args.count in
@@ -25,8 +25,8 @@ lay-level-made-requires g c =
       sounds = raising-sounds m c.loop-left.nodes n (laid_at m a n) goal c.loop-left.first c.loop-left.left c.loop-left.height c.loop-left.invariant two;
     }
 
-pub overflow-add-height : goal.overflow-add-height
-overflow-add-height g c =
+pub overflow_add-height : goal.overflow_add-height
+overflow_add-height g c =
     let m = g.K.Kind.meaning in
     let a = c.args.nodes.now in
     let n = c.args.count in
@@ -43,7 +43,7 @@ loop-left-smaller g c =
     let n = c.args.count in
     let goal = tree_over m a n in
     let two : 2 ≤ c.loop-left.left = omega arith in
-    raising-less m c.loop-left.nodes n (laid_at m a n) goal c.loop-left.first c.loop-left.left c.loop-left.height c.loop-left.invariant two c.lay-level-made.new.nodes c.lay-level-made.auto.nodes c.lay-level-made.result c.lay-level-made.ensures
+    raising-less m c.loop-left.nodes n (laid_at m a n) goal c.loop-left.first c.loop-left.left c.loop-left.height c.loop-left.invariant two c.lay_level-made.new.nodes c.lay_level-made.auto.nodes c.lay_level-made.result c.lay_level-made.ensures
 
 pub loop-left-preserved : goal.loop-left-preserved
 loop-left-preserved g c =
@@ -52,7 +52,7 @@ loop-left-preserved g c =
     let n = c.args.count in
     let goal = tree_over m a n in
     let two : 2 ≤ c.loop-left.left = omega arith in
-    raising-turns m c.loop-left.nodes n (laid_at m a n) goal c.loop-left.first c.loop-left.left c.loop-left.height c.loop-left.invariant two c.lay-level-made.new.nodes c.lay-level-made.auto.nodes c.lay-level-made.result c.lay-level-made.ensures
+    raising-turns m c.loop-left.nodes n (laid_at m a n) goal c.loop-left.first c.loop-left.left c.loop-left.height c.loop-left.invariant two c.lay_level-made.new.nodes c.lay_level-made.auto.nodes c.lay_level-made.result c.lay_level-made.ensures
 
 pub returns : goal.returns
 returns g c =
@@ -63,9 +63,9 @@ returns g c =
     let done : c.loop-left.left ≤ 1 = omega arith in
     let small : length b ≤ 32767 = omega (arith, c.requires.small, c.loop-left.auto.nodes) in
     record {
-      standing = root-standing m a b n c.loop-left.first c.loop-left.left c.loop-left.height c.requires.leaves c.loop-left.invariant done c.header-of.result c.header-of.ensures small;
-      counted = root-counted m a b n c.loop-left.first c.loop-left.left c.loop-left.height c.requires.leaves c.loop-left.invariant done c.header-of.result c.header-of.ensures;
-      tree = root-tree m a b n c.loop-left.first c.loop-left.left c.loop-left.height c.requires.leaves c.loop-left.invariant done c.header-of.result c.header-of.ensures;
-      points = root-points m a b n c.loop-left.first c.loop-left.left c.loop-left.height c.requires.leaves c.loop-left.invariant done c.header-of.result c.header-of.ensures;
-      ruled = root-ruled m a b n c.loop-left.first c.loop-left.left c.loop-left.height c.requires.leaves c.loop-left.invariant done c.header-of.result c.header-of.ensures g.met.K.Kind.first g.met.K.Kind.second;
+      standing = root-standing m a b n c.loop-left.first c.loop-left.left c.loop-left.height c.requires.leaves c.loop-left.invariant done c.header_of.result c.header_of.ensures small;
+      counted = root-counted m a b n c.loop-left.first c.loop-left.left c.loop-left.height c.requires.leaves c.loop-left.invariant done c.header_of.result c.header_of.ensures;
+      tree = root-tree m a b n c.loop-left.first c.loop-left.left c.loop-left.height c.requires.leaves c.loop-left.invariant done c.header_of.result c.header_of.ensures;
+      points = root-points m a b n c.loop-left.first c.loop-left.left c.loop-left.height c.requires.leaves c.loop-left.invariant done c.header_of.result c.header_of.ensures;
+      ruled = root-ruled m a b n c.loop-left.first c.loop-left.left c.loop-left.height c.requires.leaves c.loop-left.invariant done c.header_of.result c.header_of.ensures g.met.K.Kind.first g.met.K.Kind.second;
     }

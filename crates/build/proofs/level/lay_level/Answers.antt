@@ -15,11 +15,11 @@ settle-requires g c =
     let some : 0 < c.loop-left.left = omega arith in
     let up : c.args.height + 1 ≡ suc c.args.height = omega arith in
     record {
-      within = group-within m b c.args.height p goal c.loop-left.from c.loop-left.left c.loop-left.made c.loop-left.invariant some c.group-size-size.result c.group-size-size.ensures;
+      within = group-within m b c.args.height p goal c.loop-left.from c.loop-left.left c.loop-left.made c.loop-left.invariant some c.group_size-size.result c.group_size-size.ensures;
       above = omega arith;
-      some = children-some m b c.args.height p goal c.loop-left.from c.loop-left.left c.loop-left.made c.loop-left.invariant some c.group-size-size.result c.group-size-size.ensures (c.args.height + 1) up c.in-row.result c.in-row.ensures;
-      sounds = children-sounds m b c.args.height p goal c.loop-left.from c.loop-left.left c.loop-left.made c.loop-left.invariant some c.group-size-size.result c.group-size-size.ensures (c.args.height + 1) up c.in-row.result c.in-row.ensures;
-      apart = children-apart m b c.args.height p goal c.loop-left.from c.loop-left.left c.loop-left.made c.loop-left.invariant some c.group-size-size.result c.group-size-size.ensures (c.args.height + 1) up c.in-row.result c.in-row.ensures;
+      some = children-some m b c.args.height p goal c.loop-left.from c.loop-left.left c.loop-left.made c.loop-left.invariant some c.group_size-size.result c.group_size-size.ensures (c.args.height + 1) up c.in_row.result c.in_row.ensures;
+      sounds = children-sounds m b c.args.height p goal c.loop-left.from c.loop-left.left c.loop-left.made c.loop-left.invariant some c.group_size-size.result c.group_size-size.ensures (c.args.height + 1) up c.in_row.result c.in_row.ensures;
+      apart = children-apart m b c.args.height p goal c.loop-left.from c.loop-left.left c.loop-left.made c.loop-left.invariant some c.group_size-size.result c.group_size-size.ensures (c.args.height + 1) up c.in_row.result c.in_row.ensures;
     }
 
 pub loop-left-preserved : goal.loop-left-preserved
@@ -30,8 +30,8 @@ loop-left-preserved g c =
     let goal = level_over m c.args.nodes.now c.args.height c.args.count c.args.first in
     let some : 0 < c.loop-left.left = omega arith in
     let up : c.args.height + 1 ≡ suc c.args.height = omega arith in
-    laying-turns m b c.args.height p goal c.loop-left.from c.loop-left.left c.loop-left.made c.loop-left.invariant some c.group-size-size.result c.group-size-size.ensures
-    c.settle.new.nodes c.settle.auto.nodes (c.args.height + 1) up c.in-row.result c.in-row.ensures c.settle.ensures
+    laying-turns m b c.args.height p goal c.loop-left.from c.loop-left.left c.loop-left.made c.loop-left.invariant some c.group_size-size.result c.group_size-size.ensures
+    c.settle.new.nodes c.settle.auto.nodes (c.args.height + 1) up c.in_row.result c.in_row.ensures c.settle.ensures
 
 pub returns : goal.returns
 returns g c =

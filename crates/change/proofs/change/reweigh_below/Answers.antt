@@ -8,7 +8,7 @@ weigh-requires g c =
     let m = g.K.Kind.meaning in
     let h = c.args.height in
     let k = c.args.key in
-    sound-after m c.args.nodes.now c.take-out.new.nodes h c.args.at (take_out m h k) (take_bare m h k) c.take-out.ensures c.take-out.auto.nodes c.requires
+    sound-after m c.args.nodes.now c.take_out.new.nodes h c.args.at (take_out m h k) (take_bare m h k) c.take_out.ensures c.take_out.auto.nodes c.requires
 
 pub push-requires : goal.push-requires
 push-requires g c =
@@ -16,8 +16,8 @@ push-requires g c =
     let h = c.args.height in
     let k = c.args.key in
     let w = m.recalled c.args.weight in
-    sound-after m c.take-out.new.nodes c.weigh.new.nodes h c.args.at (weigh m h k w) (weigh-bare m h k w) c.weigh.ensures c.weigh.auto.nodes
-    (sound-after m c.args.nodes.now c.take-out.new.nodes h c.args.at (take_out m h k) (take_bare m h k) c.take-out.ensures c.take-out.auto.nodes c.requires)
+    sound-after m c.take_out.new.nodes c.weigh.new.nodes h c.args.at (weigh m h k w) (weigh-bare m h k w) c.weigh.ensures c.weigh.auto.nodes
+    (sound-after m c.args.nodes.now c.take_out.new.nodes h c.args.at (take_out m h k) (take_bare m h k) c.take_out.ensures c.take_out.auto.nodes c.requires)
 
 pub returns : goal.returns
 returns g c =
@@ -27,5 +27,5 @@ returns g c =
     let k = c.args.key in
     let w = m.recalled c.args.weight in
     let pushed = pushed-as m c.weigh.new.nodes c.push.new.nodes h p k c.args.weight c.stored.result c.stored.ensures c.push.ensures in
-    became-after m c.args.nodes.now c.take-out.new.nodes h p (take_out m h k) (take_bare m h k) c.take-out.ensures c.push.new.nodes (λ t. push m h (record { key = k; weight = w }) (weigh m h k w t))
-    (became-after m c.take-out.new.nodes c.weigh.new.nodes h p (weigh m h k w) (weigh-bare m h k w) c.weigh.ensures c.push.new.nodes (push m h (record { key = k; weight = w })) pushed)
+    became-after m c.args.nodes.now c.take_out.new.nodes h p (take_out m h k) (take_bare m h k) c.take_out.ensures c.push.new.nodes (λ t. push m h (record { key = k; weight = w }) (weigh m h k w t))
+    (became-after m c.take_out.new.nodes c.weigh.new.nodes h p (weigh m h k w) (weigh-bare m h k w) c.weigh.ensures c.push.new.nodes (push m h (record { key = k; weight = w })) pushed)

@@ -1,4 +1,4 @@
 use Rattle.change.proofs.find.+find_below.Given as goal
 
-abbrev pub decreases-find-below : goal.decreases-find-below
-decreases-find-below g l = l.height
+abbrev pub decreases-find_below : goal.decreases-find_below
+decreases-find_below g l = l.height

@@ -16,18 +16,18 @@ take-next-requires g c = record { some = some-spare g.K.Kind.meaning c.args.node
 pub write-requires : goal.write-requires
 write-requires g c = next-within g.K.Kind.meaning c.args.nodes.now c.args.free.now c.take-next.new.self 0 c.args.at c.take-next.result c.requires c.take-next.ensures
 
-pub write-requires-then-is-lt : goal.write-requires-then-is-lt
-write-requires-then-is-lt g c = omega (arith, root-within g.K.Kind.meaning c.args.nodes.now c.args.free.now 0 c.args.at c.requires, ap length c.write.ensures, length-set c.args.nodes.now c.take-next.result c.read-old.result)
+pub write-requires-then-is_lt : goal.write-requires-then-is_lt
+write-requires-then-is_lt g c = omega (arith, root-within g.K.Kind.meaning c.args.nodes.now c.args.free.now 0 c.args.at c.requires, ap length c.write.ensures, length-set c.args.nodes.now c.take-next.result c.read-old.result)
 
 pub write-requires-2 : goal.write-requires-2
 write-requires-2 g c = next-within g.K.Kind.meaning c.args.nodes.now c.args.free.now c.take-next.new.self 0 c.args.at c.take-next.result c.requires c.take-next.ensures
 
-pub returns-then-is-lt : goal.returns-then-is-lt
-returns-then-is-lt g c =
+pub returns-then-is_lt : goal.returns-then-is_lt
+returns-then-is_lt g c =
     let x = c.args.x in
     let old = c.read-old.result in
-    let e : is_lt (key_order g.K.Kind.meaning (key_in x) (key_in old.own)) ≡ true = sym (c.is-lt.ensures ∙ ap is_lt (c.key-order.ensures ∙ ap (λ k. key_order g.K.Kind.meaning k c.key-of-2.result) c.key-of.ensures ∙ ap (key_order g.K.Kind.meaning (key_in x)) c.key-of-2.ensures)) ∙ c.if-is-lt.true in
-    let b : c.write-then-is-lt.new.nodes ≡ set (set c.args.nodes.now c.take-next.result old) c.args.at (bare x c.none.result) = c.write-then-is-lt.ensures ∙ ap (λ d. set d c.args.at c.new-leaf-new.result) c.write.ensures ∙ ap (λ n. set (set c.args.nodes.now c.take-next.result old) c.args.at n) c.new-leaf-new.ensures in
+    let e : is_lt (key_order g.K.Kind.meaning (key_in x) (key_in old.own)) ≡ true = sym (c.is_lt.ensures ∙ ap is_lt (c.key_order.ensures ∙ ap (λ k. key_order g.K.Kind.meaning k c.key_of-2.result) c.key_of.ensures ∙ ap (key_order g.K.Kind.meaning (key_in x)) c.key_of-2.ensures)) ∙ c.if-is_lt.true in
+    let b : c.write-then-is_lt.new.nodes ≡ set (set c.args.nodes.now c.take-next.result old) c.args.at (bare x c.none.result) = c.write-then-is_lt.ensures ∙ ap (λ d. set d c.args.at c.new_leaf-new.result) c.write.ensures ∙ ap (λ n. set (set c.args.nodes.now c.take-next.result old) c.args.at n) c.new_leaf-new.ensures in
     subst (λ d. Inserted g.K.Kind.meaning c.args.nodes.now d c.args.free.now c.take-next.new.self 0 c.args.at (point_in g.K.Kind.meaning x) (Some c.take-next.result)) (sym b)
     (leaf-before g.K.Kind.meaning c.args.nodes.now c.args.free.now c.take-next.new.self c.args.at c.take-next.result c.requires c.take-next.ensures old c.read-old.ensures x c.none.result (root-within g.K.Kind.meaning c.args.nodes.now c.args.free.now 0 c.args.at c.requires) e)
 
@@ -35,7 +35,7 @@ pub returns : goal.returns
 returns g c =
     let x = c.args.x in
     let old = c.read-old.result in
-    let e : is_lt (key_order g.K.Kind.meaning (key_in x) (key_in old.own)) ≡ false = sym (c.is-lt.ensures ∙ ap is_lt (c.key-order.ensures ∙ ap (λ k. key_order g.K.Kind.meaning k c.key-of-2.result) c.key-of.ensures ∙ ap (key_order g.K.Kind.meaning (key_in x)) c.key-of-2.ensures)) ∙ c.if-is-lt.false in
-    let b : c.write-2.new.nodes ≡ set c.args.nodes.now c.take-next.result (bare x c.none.result) = c.write-2.ensures ∙ ap (λ n. set c.args.nodes.now c.take-next.result n) c.new-leaf-new.ensures in
+    let e : is_lt (key_order g.K.Kind.meaning (key_in x) (key_in old.own)) ≡ false = sym (c.is_lt.ensures ∙ ap is_lt (c.key_order.ensures ∙ ap (λ k. key_order g.K.Kind.meaning k c.key_of-2.result) c.key_of.ensures ∙ ap (key_order g.K.Kind.meaning (key_in x)) c.key_of-2.ensures)) ∙ c.if-is_lt.false in
+    let b : c.write-2.new.nodes ≡ set c.args.nodes.now c.take-next.result (bare x c.none.result) = c.write-2.ensures ∙ ap (λ n. set c.args.nodes.now c.take-next.result n) c.new_leaf-new.ensures in
     subst (λ d. Inserted g.K.Kind.meaning c.args.nodes.now d c.args.free.now c.take-next.new.self 0 c.args.at (point_in g.K.Kind.meaning x) (Some c.take-next.result)) (sym b)
     (leaf-after g.K.Kind.meaning c.args.nodes.now c.args.free.now c.take-next.new.self c.args.at c.take-next.result c.requires c.take-next.ensures old c.read-old.ensures x c.none.result (root-within g.K.Kind.meaning c.args.nodes.now c.args.free.now 0 c.args.at c.requires) e)

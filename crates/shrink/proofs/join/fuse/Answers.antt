@@ -43,8 +43,8 @@ settle-requires g c =
       apart = left-off m a H l r s cs [] (all-parts m a H l r s cs e n);
     }
 
-pub seat-kept-requires : goal.seat-kept-requires
-seat-kept-requires g c =
+pub seat_kept-requires : goal.seat_kept-requires
+seat_kept-requires g c =
     let m = g.K.Kind.meaning in
     let a = c.args.nodes.now in
     let H = c.args.height in
@@ -62,8 +62,8 @@ seat-kept-requires g c =
           (one-sounds m a H l r s cs [] (all-parts m a H l r s cs e n) (key_in nl.own) c.settle.new.nodes c.settle.auto.nodes (all-some m a H l r s cs e n) n c.settle.ensures);
     }
 
-pub seat-kept-requires-2 : goal.seat-kept-requires-2
-seat-kept-requires-2 g c =
+pub seat_kept-requires-2 : goal.seat_kept-requires-2
+seat_kept-requires-2 g c =
     let m = g.K.Kind.meaning in
     let a = c.args.nodes.now in
     let H = c.args.height in
@@ -77,9 +77,9 @@ seat-kept-requires-2 g c =
     let n = few c.append.result in
     record {
       some = omega (arith, ap length c.one-2.ensures);
-      sounds = sounds-at m c.seat-kept.new.nodes H (kids_of c.one-2.result) (l ∷ []) c.one-2.ensures
-          (seated-sounds m c.settle.new.nodes c.seat-kept.new.nodes c.seat-kept.auto.nodes H (l ∷ []) (kept_in m nl)
-          (seated-at m c.settle.new.nodes c.seat-kept.new.nodes H (kids_of c.one.result) (l ∷ []) (kept_in m nl) c.one.ensures c.seat-kept.ensures)
+      sounds = sounds-at m c.seat_kept.new.nodes H (kids_of c.one-2.result) (l ∷ []) c.one-2.ensures
+          (seated-sounds m c.settle.new.nodes c.seat_kept.new.nodes c.seat_kept.auto.nodes H (l ∷ []) (kept_in m nl)
+          (seated-at m c.settle.new.nodes c.seat_kept.new.nodes H (kids_of c.one.result) (l ∷ []) (kept_in m nl) c.one.ensures c.seat_kept.ensures)
           (one-sounds m a H l r s cs [] (all-parts m a H l r s cs e n) (key_in nl.own) c.settle.new.nodes c.settle.auto.nodes (all-some m a H l r s cs e n) n c.settle.ensures));
     }
 
@@ -97,14 +97,14 @@ give-requires g c =
     let e = all_are m a H l r s nl nr c.read-first.ensures c.read-last.ensures cs c.append.ensures in
     let n = few c.append.result in
     let b = c.settle.new.nodes in
-    let d = c.seat-kept.new.nodes in
-    let z = c.seat-kept-2.new.nodes in
-    let first = seated-at m b d H (kids_of c.one.result) (l ∷ []) (kept_in m nl) c.one.ensures c.seat-kept.ensures in
-    let last = seated-at m d z H (kids_of c.one-2.result) (l ∷ []) (kept_in m nr) c.one-2.ensures c.seat-kept-2.ensures in
+    let d = c.seat_kept.new.nodes in
+    let z = c.seat_kept-2.new.nodes in
+    let first = seated-at m b d H (kids_of c.one.result) (l ∷ []) (kept_in m nl) c.one.ensures c.seat_kept.ensures in
+    let last = seated-at m d z H (kids_of c.one-2.result) (l ∷ []) (kept_in m nr) c.one-2.ensures c.seat_kept-2.ensures in
     record {
-      within = give-within m a H l r s cs e n c.args.free.now c.requires.spared nl nr c.read-first.ensures c.read-last.ensures (key_in nl.own) b d z c.settle.auto.nodes c.seat-kept.auto.nodes c.seat-kept-2.auto.nodes c.settle.ensures first last;
-      apart = give-apart m a H l r s cs e n c.args.free.now c.requires.spared nl nr c.read-first.ensures c.read-last.ensures (key_in nl.own) b d z c.settle.auto.nodes c.seat-kept.auto.nodes c.seat-kept-2.auto.nodes c.settle.ensures first last;
-      room = give-room m a H l r s cs e n c.args.free.now c.requires.spared nl nr c.read-first.ensures c.read-last.ensures (key_in nl.own) b d z c.settle.auto.nodes c.seat-kept.auto.nodes c.seat-kept-2.auto.nodes c.settle.ensures first last;
+      within = give-within m a H l r s cs e n c.args.free.now c.requires.spared nl nr c.read-first.ensures c.read-last.ensures (key_in nl.own) b d z c.settle.auto.nodes c.seat_kept.auto.nodes c.seat_kept-2.auto.nodes c.settle.ensures first last;
+      apart = give-apart m a H l r s cs e n c.args.free.now c.requires.spared nl nr c.read-first.ensures c.read-last.ensures (key_in nl.own) b d z c.settle.auto.nodes c.seat_kept.auto.nodes c.seat_kept-2.auto.nodes c.settle.ensures first last;
+      room = give-room m a H l r s cs e n c.args.free.now c.requires.spared nl nr c.read-first.ensures c.read-last.ensures (key_in nl.own) b d z c.settle.auto.nodes c.seat_kept.auto.nodes c.seat_kept-2.auto.nodes c.settle.ensures first last;
     }
 
 pub returns : goal.returns
@@ -121,8 +121,8 @@ returns g c =
     let e = all_are m a H l r s nl nr c.read-first.ensures c.read-last.ensures cs c.append.ensures in
     let n = few c.append.result in
     let b = c.settle.new.nodes in
-    let d = c.seat-kept.new.nodes in
-    let z = c.seat-kept-2.new.nodes in
-    let first = seated-at m b d H (kids_of c.one.result) (l ∷ []) (kept_in m nl) c.one.ensures c.seat-kept.ensures in
-    let last = seated-at m d z H (kids_of c.one-2.result) (l ∷ []) (kept_in m nr) c.one-2.ensures c.seat-kept-2.ensures in
-    fused m a H l r s cs e n c.args.free.now c.requires.spared nl nr c.read-first.ensures c.read-last.ensures (key_in nl.own) b d z c.settle.auto.nodes c.seat-kept.auto.nodes c.seat-kept-2.auto.nodes c.settle.ensures first last c.give.new.nodes c.give.new.self c.give.ensures.spares c.give.ensures.frame
+    let d = c.seat_kept.new.nodes in
+    let z = c.seat_kept-2.new.nodes in
+    let first = seated-at m b d H (kids_of c.one.result) (l ∷ []) (kept_in m nl) c.one.ensures c.seat_kept.ensures in
+    let last = seated-at m d z H (kids_of c.one-2.result) (l ∷ []) (kept_in m nr) c.one-2.ensures c.seat_kept-2.ensures in
+    fused m a H l r s cs e n c.args.free.now c.requires.spared nl nr c.read-first.ensures c.read-last.ensures (key_in nl.own) b d z c.settle.auto.nodes c.seat_kept.auto.nodes c.seat_kept-2.auto.nodes c.settle.ensures first last c.give.new.nodes c.give.new.self c.give.ensures.spares c.give.ensures.frame

@@ -11,8 +11,8 @@ read-requires g c = within-l g.K.Kind.meaning c.args.nodes.now c.args.height c.a
 pub read-requires-2 : goal.read-requires-2
 read-requires-2 g c = within-r g.K.Kind.meaning c.args.nodes.now c.args.height c.args.l c.args.r c.requires.pair
 
-pub overflow-add-len : goal.overflow-add-len
-overflow-add-len g c = omega (arith, few c.read.result.children, few c.read-2.result.children, c.len.ensures, c.len-2.ensures)
+pub overflow_add-len : goal.overflow_add-len
+overflow_add-len g c = omega (arith, few c.read.result.children, few c.read-2.result.children, c.len.ensures, c.len-2.ensures)
 
 pub fuse-requires : goal.fuse-requires
 fuse-requires g c =
@@ -42,8 +42,8 @@ returns-then-len-lt4 g c =
     let cr = count-r m a H l r s nr c.read-2.ensures in
     joint-fused m a H l r c.fuse.new.nodes c.args.free.now c.fuse.new.free c.args.left (omega (arith, c.len.ensures, c.len-2.ensures, c.if-len-lt4.true)) c.fuse.ensures
 
-pub to-left-requires : goal.to-left-requires
-to-left-requires g c =
+pub to_left-requires : goal.to_left-requires
+to_left-requires g c =
     let m = g.K.Kind.meaning in
     let a = c.args.nodes.now in
     let H = c.args.height in
@@ -72,10 +72,10 @@ share-requires g c =
     let cr = count-r m a H l r s nr c.read-2.ensures in
     let one : length (kids_of nl.children) ≡ 1 = sym cl ∙ c.requires.poor.first c.if-left.true in
     let three : 3 ≤ length (kids_of nr.children) = omega (arith, c.len.ensures, c.len-2.ensures, c.if-len-lt4.false) in
-    let xs = kids_of c.to-left.result.left in
-    let ys = kids_of c.to-left.result.right in
-    let x = left-front m a H l r s nl nr c.read.ensures c.read-2.ensures c.args.left c.if-left.true (omega arith) xs c.to-left.ensures.left in
-    let y = left_back m a H l r s nl nr c.read.ensures c.read-2.ensures c.args.left c.if-left.true (omega arith) ys c.to-left.ensures.right in
+    let xs = kids_of c.to_left.result.left in
+    let ys = kids_of c.to_left.result.right in
+    let x = left-front m a H l r s nl nr c.read.ensures c.read-2.ensures c.args.left c.if-left.true (omega arith) xs c.to_left.ensures.left in
+    let y = left_back m a H l r s nl nr c.read.ensures c.read-2.ensures c.args.left c.if-left.true (omega arith) ys c.to_left.ensures.right in
     let n : portion m a H l r c.args.left ≡ suc (length (kids_of nl.children)) = ap (portion m a H l r) c.if-left.true ∙ ap suc cl in
     let low : 0 < portion m a H l r c.args.left = omega arith in
     let high : portion m a H l r c.args.left < length (kids_of nl.children) + length (kids_of nr.children) = omega arith in
@@ -99,14 +99,14 @@ returns-then-left g c =
     let cr = count-r m a H l r s nr c.read-2.ensures in
     let one : length (kids_of nl.children) ≡ 1 = sym cl ∙ c.requires.poor.first c.if-left.true in
     let three : 3 ≤ length (kids_of nr.children) = omega (arith, c.len.ensures, c.len-2.ensures, c.if-len-lt4.false) in
-    let xs = kids_of c.to-left.result.left in
-    let ys = kids_of c.to-left.result.right in
-    let x = left-front m a H l r s nl nr c.read.ensures c.read-2.ensures c.args.left c.if-left.true (omega arith) xs c.to-left.ensures.left in
-    let y = left_back m a H l r s nl nr c.read.ensures c.read-2.ensures c.args.left c.if-left.true (omega arith) ys c.to-left.ensures.right in
+    let xs = kids_of c.to_left.result.left in
+    let ys = kids_of c.to_left.result.right in
+    let x = left-front m a H l r s nl nr c.read.ensures c.read-2.ensures c.args.left c.if-left.true (omega arith) xs c.to_left.ensures.left in
+    let y = left_back m a H l r s nl nr c.read.ensures c.read-2.ensures c.args.left c.if-left.true (omega arith) ys c.to_left.ensures.right in
     joint-shared m a H l r c.share.new.nodes c.share.auto.nodes c.args.free.now c.requires.spared c.args.left xs ys (omega arith) x y c.share.ensures
 
-pub to-right-requires : goal.to-right-requires
-to-right-requires g c =
+pub to_right-requires : goal.to_right-requires
+to_right-requires g c =
     let m = g.K.Kind.meaning in
     let a = c.args.nodes.now in
     let H = c.args.height in
@@ -135,10 +135,10 @@ share-requires-2 g c =
     let cr = count-r m a H l r s nr c.read-2.ensures in
     let one : length (kids_of nr.children) ≡ 1 = sym cr ∙ c.requires.poor.last c.if-left.false in
     let three : 3 ≤ length (kids_of nl.children) = omega (arith, c.len.ensures, c.len-2.ensures, c.if-len-lt4.false) in
-    let xs = kids_of c.to-right.result.left in
-    let ys = kids_of c.to-right.result.right in
-    let x = right-front m a H l r s nl nr c.read.ensures c.read-2.ensures c.args.left c.if-left.false (omega arith) xs c.to-right.ensures.left in
-    let y = right-back m a H l r s nl nr c.read.ensures c.read-2.ensures c.args.left c.if-left.false (omega arith) ys c.to-right.ensures.right in
+    let xs = kids_of c.to_right.result.left in
+    let ys = kids_of c.to_right.result.right in
+    let x = right-front m a H l r s nl nr c.read.ensures c.read-2.ensures c.args.left c.if-left.false (omega arith) xs c.to_right.ensures.left in
+    let y = right-back m a H l r s nl nr c.read.ensures c.read-2.ensures c.args.left c.if-left.false (omega arith) ys c.to_right.ensures.right in
     let n : portion m a H l r c.args.left ≡ length (kids_of nl.children) - 1 = ap (portion m a H l r) c.if-left.false ∙ ap (λ k. k - 1) cl in
     let low : 0 < portion m a H l r c.args.left = omega arith in
     let high : portion m a H l r c.args.left < length (kids_of nl.children) + length (kids_of nr.children) = omega arith in
@@ -162,8 +162,8 @@ returns g c =
     let cr = count-r m a H l r s nr c.read-2.ensures in
     let one : length (kids_of nr.children) ≡ 1 = sym cr ∙ c.requires.poor.last c.if-left.false in
     let three : 3 ≤ length (kids_of nl.children) = omega (arith, c.len.ensures, c.len-2.ensures, c.if-len-lt4.false) in
-    let xs = kids_of c.to-right.result.left in
-    let ys = kids_of c.to-right.result.right in
-    let x = right-front m a H l r s nl nr c.read.ensures c.read-2.ensures c.args.left c.if-left.false (omega arith) xs c.to-right.ensures.left in
-    let y = right-back m a H l r s nl nr c.read.ensures c.read-2.ensures c.args.left c.if-left.false (omega arith) ys c.to-right.ensures.right in
+    let xs = kids_of c.to_right.result.left in
+    let ys = kids_of c.to_right.result.right in
+    let x = right-front m a H l r s nl nr c.read.ensures c.read-2.ensures c.args.left c.if-left.false (omega arith) xs c.to_right.ensures.left in
+    let y = right-back m a H l r s nl nr c.read.ensures c.read-2.ensures c.args.left c.if-left.false (omega arith) ys c.to_right.ensures.right in
     joint-shared m a H l r c.share-2.new.nodes c.share-2.auto.nodes c.args.free.now c.requires.spared c.args.left xs ys (omega arith) x y c.share-2.ensures

@@ -60,8 +60,8 @@ settle-requires-2 g c =
       apart = right-off-now m a H l r s xs ys e k c.settle.new.nodes c.settle.auto.nodes c.requires.some.0 n c.settle.ensures;
     }
 
-pub seat-kept-requires : goal.seat-kept-requires
-seat-kept-requires g c =
+pub seat_kept-requires : goal.seat_kept-requires
+seat_kept-requires g c =
     let m = g.K.Kind.meaning in
     let a = c.args.nodes.now in
     let H = c.args.height in
@@ -81,8 +81,8 @@ seat-kept-requires g c =
       sounds = sounds-at m c.settle-2.new.nodes H (kids_of c.two.result) (l ∷ r ∷ []) c.two.ensures (two-sounds m a H l r s xs ys e k c.settle.new.nodes c.settle.auto.nodes c.requires.some.0 n c.settle.ensures c.settle-2.new.nodes c.settle-2.auto.nodes c.requires.some.1 n' c.settle-2.ensures);
     }
 
-pub seat-kept-requires-2 : goal.seat-kept-requires-2
-seat-kept-requires-2 g c =
+pub seat_kept-requires-2 : goal.seat_kept-requires-2
+seat_kept-requires-2 g c =
     let m = g.K.Kind.meaning in
     let a = c.args.nodes.now in
     let H = c.args.height in
@@ -99,9 +99,9 @@ seat-kept-requires-2 g c =
     let n' = few c.args.new.right in
     record {
       some = omega (arith, ap length c.two-2.ensures);
-      sounds = sounds-at m c.seat-kept.new.nodes H (kids_of c.two-2.result) (l ∷ r ∷ []) c.two-2.ensures
-          (seated-sounds m c.settle-2.new.nodes c.seat-kept.new.nodes c.seat-kept.auto.nodes H (l ∷ r ∷ []) (kept_in m nl)
-          (seated-at m c.settle-2.new.nodes c.seat-kept.new.nodes H (kids_of c.two.result) (l ∷ r ∷ []) (kept_in m nl) c.two.ensures c.seat-kept.ensures)
+      sounds = sounds-at m c.seat_kept.new.nodes H (kids_of c.two-2.result) (l ∷ r ∷ []) c.two-2.ensures
+          (seated-sounds m c.settle-2.new.nodes c.seat_kept.new.nodes c.seat_kept.auto.nodes H (l ∷ r ∷ []) (kept_in m nl)
+          (seated-at m c.settle-2.new.nodes c.seat_kept.new.nodes H (kids_of c.two.result) (l ∷ r ∷ []) (kept_in m nl) c.two.ensures c.seat_kept.ensures)
           (two-sounds m a H l r s xs ys e k c.settle.new.nodes c.settle.auto.nodes c.requires.some.0 n c.settle.ensures c.settle-2.new.nodes c.settle-2.auto.nodes c.requires.some.1 n' c.settle-2.ensures));
     }
 
@@ -121,8 +121,8 @@ returns g c =
     let k = key_in nl.own in
     let n = few c.args.new.left in
     let n' = few c.args.new.right in
-    let d = c.seat-kept.new.nodes in
-    let z = c.seat-kept-2.new.nodes in
-    shared m a H l r s xs ys e k c.settle.new.nodes c.settle.auto.nodes c.requires.some.0 n c.settle.ensures c.settle-2.new.nodes c.settle-2.auto.nodes c.requires.some.1 n' c.settle-2.ensures nl nr c.read-first.ensures c.read-last.ensures d z c.seat-kept.auto.nodes
-    (seated-at m c.settle-2.new.nodes d H (kids_of c.two.result) (l ∷ r ∷ []) (kept_in m nl) c.two.ensures c.seat-kept.ensures)
-    (seated-at m d z H (kids_of c.two-2.result) (l ∷ r ∷ []) (kept_in m nr) c.two-2.ensures c.seat-kept-2.ensures)
+    let d = c.seat_kept.new.nodes in
+    let z = c.seat_kept-2.new.nodes in
+    shared m a H l r s xs ys e k c.settle.new.nodes c.settle.auto.nodes c.requires.some.0 n c.settle.ensures c.settle-2.new.nodes c.settle-2.auto.nodes c.requires.some.1 n' c.settle-2.ensures nl nr c.read-first.ensures c.read-last.ensures d z c.seat_kept.auto.nodes
+    (seated-at m c.settle-2.new.nodes d H (kids_of c.two.result) (l ∷ r ∷ []) (kept_in m nl) c.two.ensures c.seat_kept.ensures)
+    (seated-at m d z H (kids_of c.two-2.result) (l ∷ r ∷ []) (kept_in m nr) c.two-2.ensures c.seat_kept-2.ensures)

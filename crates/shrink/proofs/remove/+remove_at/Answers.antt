@@ -15,8 +15,8 @@ read-n-requires g t c =
     let a = c.args.nodes.now in
     sound-within m a c.args.height c.args.at (ready-sound m a c.args.free.now c.args.height c.args.at c.requires)
 
-pub pick-child-i-requires : goal.pick-child-i-requires
-pick-child-i-requires g t c =
+pub pick_child-i-requires : goal.pick_child-i-requires
+pick_child-i-requires g t c =
     let m = g.K.Kind.meaning in
     let a = c.args.nodes.now in
     let H = c.args.height in
@@ -35,8 +35,8 @@ give-requires g t c =
     let H = c.args.height in
     let p = c.args.at in
     let n = c.read-n.result in
-    let i = c.pick-child-i.result in
-    let lt = c.pick-child-i.ensures.below in
+    let i = c.pick_child-i.result in
+    let lt = c.pick_child-i.ensures.below in
     let up : H ≡ suc (H - 1) = omega (arith, c.requires.above) in
     let s = subst (λ x. Ready m a f x p) up c.requires in
     record {
@@ -53,8 +53,8 @@ renew-requires g t c =
     let H = c.args.height in
     let p = c.args.at in
     let n = c.read-n.result in
-    let i = c.pick-child-i.result in
-    let lt = c.pick-child-i.ensures.below in
+    let i = c.pick_child-i.result in
+    let lt = c.pick_child-i.ensures.below in
     let up : H ≡ suc (H - 1) = omega (arith, c.requires.above) in
     let s = subst (λ x. Ready m a f x p) up c.requires in
     let b = c.give.new.nodes in
@@ -72,8 +72,8 @@ returns-then-height-eq1 g t c =
     let H = c.args.height in
     let p = c.args.at in
     let n = c.read-n.result in
-    let i = c.pick-child-i.result in
-    let lt = c.pick-child-i.ensures.below in
+    let i = c.pick_child-i.result in
+    let lt = c.pick_child-i.ensures.below in
     let up : H ≡ suc (H - 1) = omega (arith, c.requires.above) in
     let s = subst (λ x. Ready m a f x p) up c.requires in
     let b = c.give.new.nodes in
@@ -81,19 +81,19 @@ returns-then-height-eq1 g t c =
     let free = c.give.new.self in
     let given = c.give.ensures.spares ∙ ap (λ (x : ℕ). x ∷ spares a f) c.at-child.ensures in
     subst (λ x. Removed m a d f free x p c.args.key) (sym up)
-    (removed-leaf m a f (H - 1) p s n c.read-n.ensures i lt c.args.key c.pick-child-i.ensures.is b c.give.auto.nodes free given (λ q z. c.give.ensures.frame q (λ e. z (e ∙ c.at-child.ensures)))
+    (removed-leaf m a f (H - 1) p s n c.read-n.ensures i lt c.args.key c.pick_child-i.ensures.is b c.give.auto.nodes free given (λ q z. c.give.ensures.frame q (λ e. z (e ∙ c.at-child.ensures)))
     (omega (arith, c.if-height-eq1.true)) d c.renew.auto.nodes (subst (Renewed m b d p n) c.remove.ensures c.renew.ensures))
 
-pub remove-at-requires : goal.remove-at-requires
-remove-at-requires g t c κs within =
+pub remove_at-requires : goal.remove_at-requires
+remove_at-requires g t c κs within =
     let m = g.K.Kind.meaning in
     let a = c.args.nodes.now in
     let f = c.args.free.now in
     let H = c.args.height in
     let p = c.args.at in
     let n = c.read-n.result in
-    let i = c.pick-child-i.result in
-    let lt = c.pick-child-i.ensures.below in
+    let i = c.pick_child-i.result in
+    let lt = c.pick_child-i.ensures.below in
     let up : H ≡ suc (suc (H - 2)) = omega (arith, c.requires.above, c.if-height-eq1.false) in
     let down : suc (H - 2) ≡ H - 1 = omega (arith, c.requires.above, c.if-height-eq1.false) in
     let s = subst (λ x. Ready m a f x p) up c.requires in
@@ -107,15 +107,15 @@ mend-requires g t c =
     let H = c.args.height in
     let p = c.args.at in
     let n = c.read-n.result in
-    let i = c.pick-child-i.result in
-    let lt = c.pick-child-i.ensures.below in
+    let i = c.pick_child-i.result in
+    let lt = c.pick_child-i.ensures.below in
     let up : H ≡ suc (suc (H - 2)) = omega (arith, c.requires.above, c.if-height-eq1.false) in
     let down : suc (H - 2) ≡ H - 1 = omega (arith, c.requires.above, c.if-height-eq1.false) in
     let s = subst (λ x. Ready m a f x p) up c.requires in
-    let b = c.remove-at.new.nodes in
-    let f' = c.remove-at.new.free in
-    let rem = subst (λ x. Removed m a b f f' x (get_or (kids_of n.children) i 0) c.args.key) (sym down) (subst (λ q. Removed m a b f f' (H - 1) q c.args.key) c.at-child.ensures c.remove-at.ensures) in
-    subst (λ x. Mendable m b f' p n x i) down (mendable m a f (H - 2) p s n c.read-n.ensures i lt c.args.key b c.remove-at.auto.nodes f' rem)
+    let b = c.remove_at.new.nodes in
+    let f' = c.remove_at.new.free in
+    let rem = subst (λ x. Removed m a b f f' x (get_or (kids_of n.children) i 0) c.args.key) (sym down) (subst (λ q. Removed m a b f f' (H - 1) q c.args.key) c.at-child.ensures c.remove_at.ensures) in
+    subst (λ x. Mendable m b f' p n x i) down (mendable m a f (H - 2) p s n c.read-n.ensures i lt c.args.key b c.remove_at.auto.nodes f' rem)
 
 pub returns : goal.returns
 returns g t c =
@@ -125,15 +125,15 @@ returns g t c =
     let H = c.args.height in
     let p = c.args.at in
     let n = c.read-n.result in
-    let i = c.pick-child-i.result in
-    let lt = c.pick-child-i.ensures.below in
+    let i = c.pick_child-i.result in
+    let lt = c.pick_child-i.ensures.below in
     let up : H ≡ suc (suc (H - 2)) = omega (arith, c.requires.above, c.if-height-eq1.false) in
     let down : suc (H - 2) ≡ H - 1 = omega (arith, c.requires.above, c.if-height-eq1.false) in
     let s = subst (λ x. Ready m a f x p) up c.requires in
-    let b = c.remove-at.new.nodes in
-    let f' = c.remove-at.new.free in
-    let rem = subst (λ x. Removed m a b f f' x (get_or (kids_of n.children) i 0) c.args.key) (sym down) (subst (λ q. Removed m a b f f' (H - 1) q c.args.key) c.at-child.ensures c.remove-at.ensures) in
+    let b = c.remove_at.new.nodes in
+    let f' = c.remove_at.new.free in
+    let rem = subst (λ x. Removed m a b f f' x (get_or (kids_of n.children) i 0) c.args.key) (sym down) (subst (λ q. Removed m a b f f' (H - 1) q c.args.key) c.at-child.ensures c.remove_at.ensures) in
     let d = c.mend.new.nodes in
     let f'' = c.mend.new.free in
     subst (λ x. Removed m a d f f'' x p c.args.key) (sym up)
-    (removed-fork m a f (H - 2) p s n c.read-n.ensures i lt c.args.key b c.remove-at.auto.nodes f' rem c.pick-child-i.ensures.is d f'' (subst (λ x. Mended m b d f' f'' p n x i) (sym down) c.mend.ensures))
+    (removed-fork m a f (H - 2) p s n c.read-n.ensures i lt c.args.key b c.remove_at.auto.nodes f' rem c.pick_child-i.ensures.is d f'' (subst (λ x. Mended m b d f' f'' p n x i) (sym down) c.mend.ensures))

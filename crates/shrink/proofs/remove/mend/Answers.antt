@@ -74,7 +74,7 @@ renew-requires-2 g c =
     let b = c.join-one.new.nodes in
     let j = c.before-j.result in
     let one = c.join-one.result in
-    let kids = c.left-over.ensures in
+    let kids = c.left_over.ensures in
     let lt : j + 1 < length (kids_of n.children) = omega (arith, c.before-j.ensures, s.index, s.two) in
     record {
       here = omega (arith, node-within m a f p n h i s, c.join-one.auto.nodes);
@@ -101,4 +101,4 @@ returns g c =
     let d = c.renew-2.new.nodes in
     let one = c.join-one.result in
     mended-poor m a f p n h i s c.read-child.result is poor j c.before-j.ensures l r c.at-l.ensures c.at-r.ensures b c.join-one.auto.nodes c.join-one.new.free one c.join-one.ensures d c.renew-2.auto.nodes
-    (subst (Renewed m b d p n) c.left-over.ensures c.renew-2.ensures)
+    (subst (Renewed m b d p n) c.left_over.ensures c.renew-2.ensures)

@@ -15,5 +15,5 @@ returns g c =
     let m = g.K.Kind.meaning in
     let a = c.args.nodes.now in
     let is = subst (λ q. slice_get a q ≡ Some c.read-first.result) c.at.ensures c.read-first.ensures in
-    subst (λ b. Renewed m a b c.args.at c.args.n (kids_of c.args.children)) (sym (c.write.ensures ∙ ap (set a c.args.at) c.over-first.ensures))
+    subst (λ b. Renewed m a b c.args.at c.args.n (kids_of c.args.children)) (sym (c.write.ensures ∙ ap (set a c.args.at) c.over_first.ensures))
     (renewed m a c.args.at c.args.n c.read-first.result c.args.children c.requires.here c.requires.some is)

@@ -26,8 +26,8 @@ at-child-requires g c =
     let n = c.read-n.result in
     some m a f H p c.requires n c.read-n.ensures
 
-pub seat-kept-requires : goal.seat-kept-requires
-seat-kept-requires g c =
+pub seat_kept-requires : goal.seat_kept-requires
+seat_kept-requires g c =
     let m = g.K.Kind.meaning in
     let a = c.args.nodes.now in
     let f = c.args.free.now in
@@ -45,9 +45,9 @@ give-requires g c =
     let p = c.args.root in
     let n = c.read-n.result in
     record {
-      within = root-within m a f H p c.requires n c.read-n.ensures (omega (arith, c.len.ensures, c.if-len-ge2.false)) c.seat-kept.new.nodes c.seat-kept.auto.nodes c.seat-kept.ensures;
-      apart = root-apart m a f H p c.requires n c.read-n.ensures (omega (arith, c.len.ensures, c.if-len-ge2.false)) c.seat-kept.new.nodes c.seat-kept.auto.nodes c.seat-kept.ensures;
-      room = root-room m a f H p c.requires n c.read-n.ensures (omega (arith, c.len.ensures, c.if-len-ge2.false)) c.seat-kept.new.nodes c.seat-kept.auto.nodes c.seat-kept.ensures;
+      within = root-within m a f H p c.requires n c.read-n.ensures (omega (arith, c.len.ensures, c.if-len-ge2.false)) c.seat_kept.new.nodes c.seat_kept.auto.nodes c.seat_kept.ensures;
+      apart = root-apart m a f H p c.requires n c.read-n.ensures (omega (arith, c.len.ensures, c.if-len-ge2.false)) c.seat_kept.new.nodes c.seat_kept.auto.nodes c.seat_kept.ensures;
+      room = root-room m a f H p c.requires n c.read-n.ensures (omega (arith, c.len.ensures, c.if-len-ge2.false)) c.seat_kept.new.nodes c.seat_kept.auto.nodes c.seat_kept.ensures;
     }
 
 pub returns : goal.returns
@@ -58,4 +58,4 @@ returns g c =
     let H = c.args.height in
     let p = c.args.root in
     let n = c.read-n.result in
-    root-gone m a f H p c.requires n c.read-n.ensures (omega (arith, c.len.ensures, c.if-len-ge2.false)) c.seat-kept.new.nodes c.seat-kept.auto.nodes c.seat-kept.ensures c.give.new.nodes c.give.new.self c.at-child.result c.at-child.ensures c.give.ensures.spares c.give.ensures.frame
+    root-gone m a f H p c.requires n c.read-n.ensures (omega (arith, c.len.ensures, c.if-len-ge2.false)) c.seat_kept.new.nodes c.seat_kept.auto.nodes c.seat_kept.ensures c.give.new.nodes c.give.new.self c.at-child.result c.at-child.ensures c.give.ensures.spares c.give.ensures.frame
