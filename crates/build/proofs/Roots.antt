@@ -4,7 +4,7 @@ use Rattle.std.proofs.lemmas.Bool.{cond-true, cond-false, eq-eqb, ne_eqb, cases_
 use Rattle.kinds.specs.Meaning.{Meaning, First, Second}
 use Rattle.plain.specs.declared.point.Key.{Key}
 use Rattle.refusals.specs.Limits.{most_nodes}
-use Rattle.trees.specs.Tree.{Forest, none, more, count, points_all, size_all, uses_all}
+use Rattle.trees.specs.Tree.{Forest, none, more, points_all, size_all, uses_all}
 use Rattle.trees.specs.Heap.{Good}
 use Rattle.shapes.specs.Shape.{Holds, occurs}
 use Rattle.shapes.specs.Settles.{Whole}

@@ -1,3 +1,5 @@
 // The point of a key: its weight found, and changed.
+#![tactic(auto)]
+
 pub mod change;
 pub mod find;

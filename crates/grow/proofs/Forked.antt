@@ -1,17 +1,16 @@
 -- A leaf more below a node: what the table holds once the child has grown.
-use Rattle.std.proofs.Common.{◌≡◌, ℕ, zero, suc, ◌+◌, ◌-◌, ◌<◌, ◌≤◌, Bool, true, false, cond, leb, List, [], ◌∷◌, ◌++◌, length, get_or, take, drop, set, Some, None, Option, unwrap_or, sym, refl, ap, ◌∙◌, subst, arith, length-set}
+use Rattle.std.proofs.Common.{◌≡◌, ℕ, zero, suc, ◌+◌, ◌<◌, ◌≤◌, Bool, cond, leb, List, [], ◌∷◌, ◌++◌, length, get_or, take, drop, set, Some, None, Option, unwrap_or, sym, refl, ap, ◌∙◌, subst, arith, length-set}
 use borrow.Author.Tests.{le-true}
 use Rattle.std.specs.List.{slice_get, AllByRecursion as All}
 use Rattle.std.specs.Option.{option_to_list}
-use Rattle.std.proofs.lemmas.Bool.{cond-true, cond-false}
+use Rattle.std.proofs.lemmas.Bool.{cond-true}
 use Rattle.kinds.specs.Meaning.{Meaning}
-use Rattle.plain.specs.declared.point.Key.{Key}
 use Rattle.plain.specs.declared.point.Point.{Point}
-use Rattle.trees.specs.Tree.{Tree, Forest, gone, leaf, fork, none, more, grow, hit, uses, uses_all, count, nth_tree, places_of, key_of, front, back, ◌⊕◌}
-use Rattle.trees.specs.Rules.{Level, LevelAll, Degrees, DegreesAll, Keyed, KeyedAll}
+use Rattle.trees.specs.Tree.{Tree, Forest, gone, leaf, fork, none, more, grow, hit, uses, uses_all, count, nth_tree, places_of, front, back, ◌⊕◌}
+use Rattle.trees.specs.Rules.{Level, Degrees, DegreesAll, Keyed, KeyedAll}
 use Rattle.trees.specs.Kept.{pick}
-use Rattle.trees.specs.Moves.{exchange, first_key, inserted, divided, halves, seated}
-use Rattle.trees.proofs.Forests.{uses-⊕, front-back}
+use Rattle.trees.specs.Moves.{exchange, first_key, inserted, divided}
+use Rattle.trees.proofs.Forests.{uses-⊕}
 use Rattle.shapes.specs.Shape.{occurs, full, full_all, Fine, Grew}
 use Rattle.shapes.proofs.Forks.{fine-⊕, fine-left, fine-right}
 use Rattle.shapes.proofs.Grows.{parted, inserted-grew}
@@ -20,7 +19,7 @@ use Rattle.table.specs.declared.children.Children.{Children}
 use Rattle.table.specs.declared.free.Free.{Free}
 use Rattle.table.specs.Kids.{kids_of}
 use Rattle.table.specs.Spares.{spares}
-use Rattle.table.specs.Reading.{key_in, kept_in, fork_of, tree_at, inside, Sound, Sounds}
+use Rattle.table.specs.Reading.{key_in, kept_in, tree_at, inside, Sound, Sounds}
 use Rattle.table.proofs.Frames.{hit-here, nth-grow, count-grow, front-grow, back-grow, places-at, exchange-grow}
 use Rattle.table.proofs.Steps.{inside_one, kids, below, fork-was, fork-now, other, level-nth, degrees-nth, uses-nth}
 use Rattle.tree.proofs.Picks.{key-tree}

@@ -1,11 +1,10 @@
 -- A new leaf beside another: in the table, as in the tree.
-use Rattle.std.proofs.Common.{◌≡◌, ℕ, suc, ◌+◌, ◌<◌, ◌≤◌, Bool, true, false, cond, List, [], ◌∷◌, length, set, Some, None, Option, sym, refl, ap, ◌∙◌, subst, arith, length-set}
+use Rattle.std.proofs.Common.{◌≡◌, ℕ, ◌+◌, ◌<◌, ◌≤◌, true, false, cond, List, [], ◌∷◌, length, set, Some, None, sym, ap, ◌∙◌, subst, arith, length-set}
 use Rattle.std.specs.List.{slice_get, AllByRecursion as All}
 use Rattle.std.specs.Ordering.{is_lt}
 use Rattle.kinds.specs.Meaning.{Meaning}
-use Rattle.plain.specs.declared.point.Point.{Point}
 use Rattle.plain.specs.Points.{key_order}
-use Rattle.trees.specs.Tree.{Tree, Forest, gone, leaf, fork, none, more, grow, place_of, hit, uses, uses_all}
+use Rattle.trees.specs.Tree.{Tree, gone, leaf, fork, none, more, grow, place_of, hit, uses, uses_all}
 use Rattle.trees.specs.Moves.{beside, inserted}
 use Rattle.shapes.specs.Shape.{occurs}
 use Rattle.table.specs.declared.node.Node.{Node}

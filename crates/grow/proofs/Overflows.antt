@@ -1,15 +1,15 @@
 -- A leaf more below a full node, which is split.
-use Rattle.std.proofs.Common.{◌≡◌, ℕ, zero, suc, ◌+◌, ◌-◌, ◌<◌, ◌≤◌, Bool, true, false, cond, leb, List, [], ◌∷◌, ◌++◌, length, get_or, take, drop, Some, None, Option, sym, refl, ap, ◌∙◌, subst, append_assoc, add-one, arith, length-append, length-drop, length-take}
+use Rattle.std.proofs.Common.{◌≡◌, ℕ, suc, ◌+◌, ◌-◌, ◌<◌, ◌≤◌, leb, List, [], ◌∷◌, ◌++◌, length, get_or, take, drop, Some, Option, sym, refl, ap, ◌∙◌, subst, append_assoc, arith, length-append, length-drop, length-take}
 use borrow.Author.Tests.{lt-leb}
 use Rattle.std.specs.List.{slice_get}
 use Rattle.std.proofs.lemmas.List.{take_more, drop_more, take-append-drop}
 use Rattle.std.proofs.lemmas.Bool.{cond-false}
 use Rattle.kinds.specs.Meaning.{Meaning}
 use Rattle.plain.specs.declared.point.Point.{Point}
-use Rattle.trees.specs.Tree.{Tree, Forest, fork, none, more, grow, hit, uses, uses_all, count, front, back, ◌⊕◌}
+use Rattle.trees.specs.Tree.{Forest, none, more, grow, hit, uses, uses_all, count, front, back, ◌⊕◌}
 use Rattle.trees.specs.Kept.{pick}
-use Rattle.trees.specs.Moves.{first_key, settled, inserted, divided, halves, seated}
-use Rattle.trees.proofs.Forests.{uses-⊕, front-back, count-front, count-back}
+use Rattle.trees.specs.Moves.{settled, inserted, divided, halves, seated}
+use Rattle.trees.proofs.Forests.{uses-⊕, front-back}
 use Rattle.trees.proofs.Bares.{alike-uses_all, seated-bare}
 use Rattle.shapes.specs.Shape.{occurs, Fine}
 use Rattle.shapes.proofs.Forks.{fine-left, fine-right, halves-bare, pair, pair-uses}
@@ -17,14 +17,14 @@ use Rattle.table.specs.declared.node.Node.{Node}
 use Rattle.table.specs.declared.free.Free.{Free}
 use Rattle.table.specs.Spares.{spares}
 use Rattle.table.specs.Reading.{key_in, kept_in, tree_at, inside, Sounds}
-use Rattle.table.proofs.Frames.{hit-here, count-grow, front-grow, back-grow}
+use Rattle.table.proofs.Frames.{count-grow, front-grow, back-grow}
 use Rattle.table.proofs.Steps.{inside_one, kids, below}
 use Rattle.tree.proofs.Heights.{up}
 use Rattle.tree.proofs.Spared.{spares-kept}
 use Rattle.grow.specs.Grown.{Ready, Inserted, most, half}
 use Rattle.grow.specs.Nodes.{with_next}
-use Rattle.grow.specs.Split.{under, Apart, pair_over, Split}
-use Rattle.grow.proofs.Forked.{fine-sounds, was, grown, grown_forest, fine-now, apart-now, uses-now, trees-now, frame-now, inserted-is}
+use Rattle.grow.specs.Split.{under, Apart, Split}
+use Rattle.grow.proofs.Forked.{fine-sounds, was, grown, grown_forest, fine-now, apart-now, trees-now, frame-now, inserted-is}
 
 -- the places with one more after number i
 pub next-places : (i q : ℕ) (ks : List ℕ) → i < length ks → with_next i q ks ≡ take i ks ++ ((get_or ks i 0 ∷ q ∷ []) ++ drop (i + 1) ks)

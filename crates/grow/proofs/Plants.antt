@@ -1,14 +1,13 @@
 -- A point more in the whole tree: in the table, as in the tree.
-use Rattle.std.proofs.Common.{◌≡◌, ℕ, zero, suc, ◌+◌, ◌-◌, ◌<◌, ◌≤◌, Bool, true, false, cond, leb, List, [], ◌∷◌, ◌++◌, length, set, Some, None, Option, sym, refl, ap, ◌∙◌, subst, arith, length-set, le-leb}
+use Rattle.std.proofs.Common.{◌≡◌, ℕ, suc, ◌+◌, ◌-◌, ◌<◌, ◌≤◌, true, leb, List, [], ◌∷◌, length, set, Some, Option, sym, refl, ap, ◌∙◌, subst, arith, length-set, le-leb}
 use borrow.Author.Tests.{lt-leb}
-use Rattle.std.specs.List.{slice_get, AllByRecursion as All}
+use Rattle.std.specs.List.{AllByRecursion as All}
 use Rattle.std.proofs.lemmas.Bool.{cond-true, cond-false}
 use Rattle.kinds.specs.Meaning.{Meaning}
-use Rattle.plain.specs.declared.point.Key.{Key}
 use Rattle.plain.specs.declared.point.Point.{Point}
-use Rattle.trees.specs.Tree.{Tree, Forest, leaf, none, more, grow, hit, uses, uses_all, count}
+use Rattle.trees.specs.Tree.{Tree, Forest, none, more, grow, hit, uses, uses_all, count}
 use Rattle.trees.specs.Moves.{settled, seated, inserted, topped, with_point}
-use Rattle.shapes.specs.Shape.{occurs, full, Fine, Grew}
+use Rattle.shapes.specs.Shape.{occurs, full, Grew}
 use Rattle.shapes.proofs.Grows.{inserted-grew}
 use Rattle.table.specs.declared.node.Node.{Node}
 use Rattle.table.specs.declared.node.Stored.{Stored}
@@ -16,7 +15,7 @@ use Rattle.table.specs.declared.children.Children.{Children}
 use Rattle.table.specs.declared.free.Free.{Free}
 use Rattle.table.specs.Spares.{spares}
 use Rattle.table.specs.Reading.{point_in, leaf_of, tree_at, inside, Sounds}
-use Rattle.table.proofs.Frames.{nth-set-same, nth-set-other, hit-here, count-grow}
+use Rattle.table.proofs.Frames.{nth-set-same, nth-set-other, hit-here}
 use Rattle.table.proofs.Steps.{inside-lt, inside_one}
 use Rattle.tree.specs.Nodes.{bare, keeping}
 use Rattle.tree.specs.Forests.{Laid, Seated}

@@ -1,10 +1,9 @@
 -- One node laid as two: in the table, as in the tree.
-use Rattle.std.proofs.Common.{◌≡◌, ℕ, suc, ◌+◌, ◌-◌, ◌<◌, ◌≤◌, List, [], ◌∷◌, length, None, Option, sym, refl, ap, ◌∙◌, subst, arith}
-use Rattle.std.specs.List.{slice_get}
+use Rattle.std.proofs.Common.{◌≡◌, ℕ, suc, ◌+◌, ◌-◌, ◌<◌, ◌≤◌, List, [], ◌∷◌, length, None, Option, sym, ap, ◌∙◌, subst, arith}
 use Rattle.kinds.specs.Meaning.{Meaning}
 use Rattle.plain.specs.declared.point.Key.{Key}
 use Rattle.plain.specs.declared.point.Point.{Point}
-use Rattle.trees.specs.Tree.{Tree, Forest, fork, none, more, grow, hit, uses, uses_all, count}
+use Rattle.trees.specs.Tree.{Forest, fork, none, more, grow, hit, uses, uses_all, count}
 use Rattle.trees.specs.Rules.{Level, Degrees}
 use Rattle.trees.specs.Moves.{first_key, settled, seated}
 use Rattle.trees.proofs.Bares.{alike-uses, alike-level, alike-degrees, pull-bare}

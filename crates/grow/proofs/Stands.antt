@@ -1,12 +1,12 @@
 -- After one point more the tree stands as it should.
-use Rattle.std.proofs.Common.{◌≡◌, ℕ, zero, suc, ◌+◌, ◌-◌, ◌*◌, ◌^◌, ◌<◌, ◌≤◌, Bool, true, false, cond, eqb, List, [], ◌∷◌, length, sym, refl, ap, ◌∙◌, subst, arith, length-append, pow_mono, eq-eqb, ne_eqb}
+use Rattle.std.proofs.Common.{◌≡◌, ℕ, suc, ◌+◌, ◌*◌, ◌^◌, ◌<◌, ◌≤◌, false, eqb, List, [], ◌∷◌, length, sym, refl, ap, ◌∙◌, subst, arith, length-append, pow_mono, eq-eqb, ne_eqb}
 use Rattle.std.specs.List.{AllByRecursion as All}
 use Rattle.std.proofs.lemmas.Bool.{cond-true, cond-false}
 use Rattle.kinds.specs.Meaning.{Meaning, First, Second}
 use Rattle.plain.specs.declared.point.Point.{Point}
 use Rattle.plain.specs.Points.{FitPoint}
 use Rattle.plain.specs.Set.{put, stands}
-use Rattle.trees.specs.Tree.{Tree, Forest, none, more, points, points_all, uses, uses_all, size_all}
+use Rattle.trees.specs.Tree.{Tree, Forest, none, more, points, points_all, uses_all, size_all}
 use Rattle.trees.specs.Moves.{with_point}
 use Rattle.shapes.specs.Shape.{occurs, full, wants, Holds, Changed}
 use Rattle.shapes.specs.Settles.{Whole}

@@ -5,7 +5,7 @@ use Rattle.std.specs.Option.{option_to_list}
 use Rattle.kinds.specs.Meaning.{Meaning}
 use Rattle.plain.specs.declared.point.Point.{Point}
 use Rattle.refusals.specs.Limits.{most_nodes}
-use Rattle.trees.specs.Tree.{Tree, Forest, grow, uses, uses_all}
+use Rattle.trees.specs.Tree.{grow, uses, uses_all}
 use Rattle.trees.specs.Rules.{Level, Degrees, Keyed}
 use Rattle.trees.specs.Moves.{inserted}
 use Rattle.shapes.specs.Shape.{occurs, full}

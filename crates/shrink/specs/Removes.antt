@@ -1,5 +1,5 @@
 -- A node with other children, a node mended, and a tree without one leaf: in a table.
-use Rattle.std.specs.Prelude.{◌≡◌, ℕ, suc, ◌+◌, ◌-◌, ◌<◌, ◌≤◌, List, length, Some}
+use Rattle.std.specs.Prelude.{◌≡◌, ℕ, suc, ◌+◌, ◌<◌, ◌≤◌, List, length, Some}
 use Rattle.std.specs.List.{slice_get}
 use Rattle.kinds.specs.Meaning.{Meaning}
 use Rattle.plain.specs.declared.point.Key.{Key}

@@ -7,4 +7,4 @@ pub returns-then-not-n : goal.returns-then-not-n
 returns-then-not-n g c e = fork-of g.K.Kind.meaning c.args.nodes.now c.args.height c.args.n (omega (arith, c.len.ensures)) (c.if-not-heads.ensures refl) (λ keeps. clash keeps (not-kept c.args.n.keeps e))
 
 pub returns-else-not-n : goal.returns-else-not-n
-returns-else-not-n g c e = fork-of g.K.Kind.meaning c.args.nodes.now c.args.height c.args.n (omega (arith, c.len.ensures)) (c.if-not-heads.ensures refl) (λ _. c.has-point.ensures e)
+returns-else-not-n g c e = fork-of g.K.Kind.meaning c.args.nodes.now c.args.height c.args.n (omega (arith, c.len.ensures)) (c.if-not-heads.ensures refl) (λ _. c.has_point.ensures e)

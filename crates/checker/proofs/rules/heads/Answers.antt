@@ -10,5 +10,5 @@ returns g c e =
     let m = g.K.Kind.meaning in
     let j = c.in-Some.key in
     let k = key_in c.args.n.own in
-    let equal : is_eq (key_order m j k) ≡ true = ap (λ i. is_eq (key_order m j i)) (sym c.key-of.ensures) ∙ sym (ap is_eq c.key-order.ensures) ∙ sym c.is-eq.ensures ∙ e in
+    let equal : is_eq (key_order m j k) ≡ true = ap (λ i. is_eq (key_order m j i)) (sym c.key_of.ensures) ∙ sym (ap is_eq c.key_order.ensures) ∙ sym c.is_eq.ensures ∙ e in
     sym c.in-Some.ensures ∙ ap Some (tie m g.met.K.Kind.first j k (eq-equal (key_order m j k) equal))

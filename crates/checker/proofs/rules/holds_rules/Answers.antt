@@ -14,7 +14,7 @@ returns-then-counts-header g c e =
     let ns = c.args.nodes.now in
     let hd = c.args.header in
     let one = c.one-tree.ensures in
-    let passed = subst (λ ps. PassesAll m (grow (tree_at m ns hd.height) ps) None None hd.height) one (c.if-not-pass-all.ensures refl) in
+    let passed = subst (λ ps. PassesAll m (grow (tree_at m ns hd.height) ps) None None hd.height) one (c.if-not-pass_all.ensures refl) in
     passes-checked m g.met.K.Kind.first g.met.K.Kind.second coded_ℕ g.row.K-Weight.coded ns hd c.if-header-eq0.false None passed.1
     (sym c.if-counts-header.true ∙ c.in-Some.ensures.0 ∙ ap (λ ps. length (points_all (grow (tree_at m ns hd.height) ps))) one)
     (sym (eqb-true c.in-Some.counts.kept hd.count e) ∙ c.in-Some.ensures.1 ∙ ap (λ ps. length (kept_all (grow (tree_at m ns hd.height) ps))) one)

@@ -1,9 +1,7 @@
-use Rattle.std.proofs.Common.{◌≡◌, ℕ, suc, ◌+◌, ◌-◌, ◌<◌, ◌≤◌, ◌∷◌, ◌++◌, length, get_or, take, drop, set, Some, None, sym, ap, ◌∙◌, subst, arith}
+use Rattle.std.proofs.Common.{◌≡◌, suc, ◌+◌, ◌-◌, ◌<◌, ◌≤◌, ◌∷◌, ◌++◌, length, get_or, take, drop, set, Some, None, sym, ap, ◌∙◌, subst, arith}
 use Rattle.std.proofs.ByRecursion.{All-get_or}
-use Rattle.std.specs.List.{slice_get}
 use Rattle.table.specs.Kids.{kids_of}
-use Rattle.table.specs.Reading.{key_in, point_in, kept_in, tree_at}
-use Rattle.table.specs.Spares.{spares}
+use Rattle.table.specs.Reading.{key_in, point_in, kept_in}
 use Rattle.table.proofs.Cases.{few}
 use Rattle.table.proofs.Steps.{kids-some, kids-within}
 use Rattle.tree.specs.Places.{pick_at}

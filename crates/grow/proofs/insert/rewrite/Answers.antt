@@ -1,4 +1,4 @@
-use Rattle.std.proofs.Common.{◌≡◌, set, Some, sym, ap, ◌∙◌, subst}
+use Rattle.std.proofs.Common.{◌≡◌, set, Some, ap, ◌∙◌, subst}
 use Rattle.std.specs.List.{slice_get}
 use Rattle.grow.proofs.insert.rewrite.Goals as goal
 

@@ -1,4 +1,4 @@
-use Rattle.std.proofs.Common.{◌≡◌, ℕ, ◌<◌, true, false, length, set, Some, sym, ap, ◌∙◌, subst, arith, length-set}
+use Rattle.std.proofs.Common.{◌≡◌, true, false, length, set, Some, sym, ap, ◌∙◌, subst, arith, length-set}
 use Rattle.std.specs.Ordering.{is_lt}
 use Rattle.plain.specs.Points.{key_order}
 use Rattle.table.specs.Reading.{key_in, point_in}

@@ -1,4 +1,4 @@
-use Rattle.std.proofs.Common.{◌≡◌, ◌+◌, ◌-◌, ◌∷◌, ◌++◌, take, drop, sym, ap, ◌∙◌}
+use Rattle.std.proofs.Common.{◌+◌, ◌-◌, ◌∷◌, ◌++◌, take, drop, ap, ◌∙◌}
 use Rattle.table.specs.Kids.{kids_of}
 use Rattle.grow.proofs.Halved.{low-left, low-right, high-left, high-right}
 use Rattle.grow.proofs.split.halve.Goals as goal

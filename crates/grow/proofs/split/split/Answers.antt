@@ -1,4 +1,4 @@
-use Rattle.std.proofs.Common.{◌≡◌, ◌<◌, [], ◌∷◌, length, sym, ap, ◌∙◌, subst, arith}
+use Rattle.std.proofs.Common.{◌<◌, length, sym, subst, arith}
 use Rattle.trees.specs.Tree.{grow}
 use Rattle.table.specs.Kids.{kids_of}
 use Rattle.table.specs.Reading.{key_in, kept_in, tree_at, Sounds}

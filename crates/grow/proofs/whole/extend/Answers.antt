@@ -1,4 +1,4 @@
-use Rattle.std.proofs.Common.{◌≡◌, ◌+◌, ◌-◌, ◌<◌, ◌≤◌, [], ◌∷◌, length, Some, None, sym, ap, ◌∙◌, subst, arith}
+use Rattle.std.proofs.Common.{◌≡◌, ◌+◌, ◌-◌, ◌<◌, ◌≤◌, [], ◌∷◌, length, Some, None, sym, subst, arith}
 use Rattle.trees.specs.Tree.{grow, uses_all}
 use Rattle.table.specs.Reading.{point_in, tree_at, Sounds}
 use Rattle.tree.specs.Forests.{Laid, Seated}

@@ -1,8 +1,7 @@
-use Rattle.std.proofs.Common.{◌≡◌, false, sym, ap, ◌∙◌, subst}
+use Rattle.std.proofs.Common.{◌≡◌, false, sym, subst}
 use Rattle.plain.specs.Points.{FitPoint}
 use Rattle.plain.specs.Set.{put, stands}
-use Rattle.trees.specs.Tree.{none, more}
-use Rattle.table.specs.Reading.{key_in, point_in, tree_at}
+use Rattle.table.specs.Reading.{key_in, point_in}
 use Rattle.tree.specs.Standing.{forest_of, points_of, Standing, Ruled}
 use Rattle.grow.specs.Planted.{Planted}
 use Rattle.grow.proofs.Stands.{spares-in, spares-once, some-spare, empty, one-tree, enough, ready, low, stands_on, rules-on, any-height}

@@ -1,4 +1,4 @@
-use Rattle.std.proofs.Common.{◌-◌, [], ◌∷◌, length, ap, arith}
+use Rattle.std.proofs.Common.{[], ◌∷◌, length, ap, arith}
 use Rattle.table.specs.Kids.{kids_of}
 use Rattle.table.specs.Reading.{key_in, kept_in}
 use Rattle.table.proofs.Cases.{few}

@@ -1,4 +1,4 @@
-use Rattle.std.proofs.Common.{◌-◌, arith}
+use Rattle.std.proofs.Common.{arith}
 use Rattle.table.proofs.Steps.{sound-within}
 use Rattle.shrink.proofs.Lowers.{some, below-sounds, stays-root, root-within, root-apart, root-room, root-gone}
 use Rattle.shrink.proofs.whole.lower.Goals as goal

@@ -27,8 +27,8 @@ read-node-requires g c =
     let rooms = subst Rooms top c.loop-stack.invariant.3 in
     sound-within m ns next.height next.place sound.0
 
-pub put-open-requires : goal.put-open-requires
-put-open-requires g c =
+pub put_open-requires : goal.put_open-requires
+put_open-requires g c =
     let m = g.K.Kind.meaning in
     let ns = c.args.nodes.now in
     let l = c.args.l in
@@ -60,8 +60,8 @@ loop-stack-smaller-then-next-gt0 g c =
     let node = c.read-node.result in
     let leads = leads_on m w in
     let top = pile-top entries depth c.loop-stack-test.true (omega (arith, c.loop-stack.invariant.0, c.loop-stack.invariant.1)) (record { place = 0; height = 0 }) in
-    let coming = ap (λ es. to_come m ns leads l u (es)) top ∙ turn_on m leads l u ns next left node c.read-node.ensures (next.height - 1) (omega (arith, c.if-next-gt0.true)) (sym c.is-leading.ensures ∙ c.if-is-leading.true) in
-    omega (arith, ap length coming, ap (λ es. length (to_come m ns leads l u (es))) c.put-open.ensures.pile)
+    let coming = ap (λ es. to_come m ns leads l u (es)) top ∙ turn_on m leads l u ns next left node c.read-node.ensures (next.height - 1) (omega (arith, c.if-next-gt0.true)) (sym c.is_leading.ensures ∙ c.if-is_leading.true) in
+    omega (arith, ap length coming, ap (λ es. length (to_come m ns leads l u (es))) c.put_open.ensures.pile)
 
 pub loop-stack-preserved-then-next-gt0 : goal.loop-stack-preserved-then-next-gt0
 loop-stack-preserved-then-next-gt0 g c =
@@ -81,15 +81,15 @@ loop-stack-preserved-then-next-gt0 g c =
     let rooms = subst Rooms top c.loop-stack.invariant.3 in
     let up : next.height ≡ suc (next.height - 1) = (omega (arith, c.if-next-gt0.true)) in
     let x = point_in m node.kept in
-    let lead = leading m w node.keeps x (sym c.is-leading.ensures ∙ c.if-is-leading.true) in
-    let coming = ap (λ es. to_come m ns leads l u (es)) top ∙ turn_on m leads l u ns next left node c.read-node.ensures (next.height - 1) (omega (arith, c.if-next-gt0.true)) (sym c.is-leading.ensures ∙ c.if-is-leading.true) in
+    let lead = leading m w node.keeps x (sym c.is_leading.ensures ∙ c.if-is_leading.true) in
+    let coming = ap (λ es. to_come m ns leads l u (es)) top ∙ turn_on m leads l u ns next left node c.read-node.ensures (next.height - 1) (omega (arith, c.if-next-gt0.true)) (sym c.is_leading.ensures ∙ c.if-is_leading.true) in
     let rest = ap (λ vs. matches m l u w (flat_map kept_at vs)) coming ∙ rest-is m l u w (tree_of m ns next) (to_come m ns leads l u (open_entries m ns (next.height - 1) l u (kids_of node.children) ++ left))
     ∙ ap (λ o. lists m l u w o ++ matches m l u w (flat_map kept_at (to_come m ns leads l u (open_entries m ns (next.height - 1) l u (kids_of node.children) ++ left)))) (kept_here m leads l u ns next left node c.read-node.ensures ∙ lead.0)
     ∙ ap (λ ls. ls ++ matches m l u w (flat_map kept_at (to_come m ns leads l u (open_entries m ns (next.height - 1) l u (kids_of node.children) ++ left)))) (lists-some m l u w x lead.1 (inside m l u node.kept.at) refl) in
-    let piled = c.put-open.ensures.pile in
+    let piled = c.put_open.ensures.pile in
     let listing = listing-visit _ _ _ _ _ _ c.loop-stack.matches c.visit-matches.result x (inside m l u node.kept.at) c.loop-stack.invariant.6 rest c.visit-matches.ensures.count c.visit-matches.ensures.list in (
-      c.put-open.auto.entries ∙ c.loop-stack.invariant.0,
-      omega (arith, c.put-open.ensures.depth, open-few m ns (next.height - 1) l u (kids_of node.children), few node.children, rooms.0, c.if-next-gt0.true, pile-long entries (depth - 1) (omega (arith, c.loop-stack.invariant.0, c.loop-stack.invariant.1)), c.loop-stack.invariant.0, c.loop-stack-test.true),
+      c.put_open.auto.entries ∙ c.loop-stack.invariant.0,
+      omega (arith, c.put_open.ensures.depth, open-few m ns (next.height - 1) l u (kids_of node.children), few node.children, rooms.0, c.if-next-gt0.true, pile-long entries (depth - 1) (omega (arith, c.loop-stack.invariant.0, c.loop-stack.invariant.1)), c.loop-stack.invariant.0, c.loop-stack-test.true),
       subst (AllSound m ns) (sym piled) (sound-on m leads l u ns next left node c.read-node.ensures (next.height - 1) up sound),
       subst Rooms (sym piled) (rooms-after m leads l u ns next left node (next.height - 1) up rooms),
       omega (arith, c.loop-stack.invariant.4, ap length coming, ap (λ es. length (to_come m ns leads l u es)) piled),
@@ -131,7 +131,7 @@ loop-stack-preserved-else-next-gt0 g c =
     let sound = subst (AllSound m ns) top c.loop-stack.invariant.2 in
     let rooms = subst Rooms top c.loop-stack.invariant.3 in
     let x = point_in m node.kept in
-    let lead = leading m w node.keeps x (sym c.is-leading.ensures ∙ c.if-is-leading.true) in
+    let lead = leading m w node.keeps x (sym c.is_leading.ensures ∙ c.if-is_leading.true) in
     let coming = ap (λ es. to_come m ns leads l u (es)) top ∙ turn-leaf m leads l u ns next left node c.read-node.ensures (omega (arith, c.if-next-gt0.false)) in
     let rest = ap (λ vs. matches m l u w (flat_map kept_at vs)) coming ∙ rest-is m l u w (tree_of m ns next) (to_come m ns leads l u (left))
     ∙ ap (λ o. lists m l u w o ++ matches m l u w (flat_map kept_at (to_come m ns leads l u (left)))) (kept_here m leads l u ns next left node c.read-node.ensures ∙ lead.0)
@@ -152,7 +152,7 @@ loop-stack-smaller g c =
     let node = c.read-node.result in
     let leads = leads_on m w in
     let top = pile-top entries depth c.loop-stack-test.true (omega (arith, c.loop-stack.invariant.0, c.loop-stack.invariant.1)) (record { place = 0; height = 0 }) in
-    let coming = ap (λ es. to_come m ns leads l u (es)) top ∙ turn-off m leads l u ns next left node c.read-node.ensures (sym c.is-leading.ensures ∙ c.if-is-leading.false) in
+    let coming = ap (λ es. to_come m ns leads l u (es)) top ∙ turn-off m leads l u ns next left node c.read-node.ensures (sym c.is_leading.ensures ∙ c.if-is_leading.false) in
     omega (arith, ap length coming)
 
 pub loop-stack-preserved : goal.loop-stack-preserved
@@ -171,7 +171,7 @@ loop-stack-preserved g c =
     let top = pile-top entries depth c.loop-stack-test.true (omega (arith, c.loop-stack.invariant.0, c.loop-stack.invariant.1)) (record { place = 0; height = 0 }) in
     let sound = subst (AllSound m ns) top c.loop-stack.invariant.2 in
     let rooms = subst Rooms top c.loop-stack.invariant.3 in
-    let off = sym c.is-leading.ensures ∙ c.if-is-leading.false in
+    let off = sym c.is_leading.ensures ∙ c.if-is_leading.false in
     let coming = ap (λ es. to_come m ns leads l u (es)) top ∙ turn-off m leads l u ns next left node c.read-node.ensures off in
     let rest = ap (λ vs. matches m l u w (flat_map kept_at vs)) coming ∙ rest-is m l u w (tree_of m ns next) (to_come m ns leads l u (left))
     ∙ ap (λ o. lists m l u w o ++ matches m l u w (flat_map kept_at (to_come m ns leads l u (left)))) (kept_here m leads l u ns next left node c.read-node.ensures)
