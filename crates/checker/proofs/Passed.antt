@@ -1,9 +1,9 @@
 -- From the tests to the rules.
-use Rattle.std.proofs.Common.{◌≡◌, ℕ, true, false, eqb, List, length, Option, sym, refl, ap, ◌∙◌, subst, append-nil, arith, ne_eqb}
+use Rattle.std.proofs.Common.{◌≡◌, ℕ, List, length, Option, sym, ap, ◌∙◌, subst, append-nil, arith, ne_eqb}
 use base.Stored.{Coded}
 use Rattle.kinds.specs.Meaning.{Meaning, First, Second}
 use Rattle.plain.specs.declared.point.Key.{Key}
-use Rattle.trees.specs.Tree.{Tree, Forest, none, more, points, points_all}
+use Rattle.trees.specs.Tree.{Tree, none, more, points, points_all}
 use Rattle.trees.specs.Rules.{kept, kept_all, Rules}
 use Rattle.kept.proofs.Tells.{kept-total}
 use Rattle.kept.proofs.Apart.{is, shuffled-of}
@@ -12,7 +12,7 @@ use Rattle.shapes.proofs.Wholes.{rules-whole}
 use Rattle.table.specs.declared.node.Node.{Node}
 use Rattle.table.specs.declared.header.Header.{Header}
 use Rattle.table.specs.Reading.{tree_at}
-use Rattle.tree.specs.Standing.{forest_of, points_of, Ruled}
+use Rattle.tree.specs.Standing.{forest_of}
 use Rattle.checker.specs.Passes.{Passes}
 use Rattle.checker.specs.Checked.{Checked}
 use Rattle.checker.proofs.Rises.{level-of, degrees-of, keyed-of, fit_of, rising-of}

@@ -1,5 +1,5 @@
 -- How many points there are, and how many are kept.
-use Rattle.std.specs.Prelude.{◌≡◌, ℕ, ◌+◌, cond, length, Some, None, Option}
+use Rattle.std.specs.Prelude.{◌≡◌, ◌+◌, length, Some, None, Option}
 use Rattle.trees.specs.Tree.{Forest, points_all}
 use Rattle.trees.specs.Rules.{kept_all}
 use Rattle.checker.specs.declared.count.Counts.{Counts}

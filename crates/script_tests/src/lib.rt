@@ -1,3 +1,5 @@
+#![tactic(auto)]
+
 // What scripts print and what lines say, on examples.
 #[cfg(test)]
 mod capacity;

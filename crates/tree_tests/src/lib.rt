@@ -1,3 +1,5 @@
+#![tactic(auto)]
+
 // Long runs of changes on tables of nodes; after each change the checker is asked, and every point
 // is looked up.
 #[cfg(test)]

@@ -1,5 +1,5 @@
 -- Open children join from the right, one after the other.
-use Rattle.std.proofs.Common.{◌≡◌, ℕ, zero, suc, ◌+◌, ◌-◌, ◌<◌, ◌≤◌, Bool, true, false, cond, not, ◌&&◌, List, [], ◌∷◌, ◌++◌, map, length, get_or, drop, Some, sym, refl, ap, ◌∙◌, arith, length-append}
+use Rattle.std.proofs.Common.{◌≡◌, ℕ, zero, suc, ◌+◌, ◌<◌, ◌≤◌, Bool, true, false, cond, not, ◌&&◌, List, [], ◌∷◌, ◌++◌, map, length, get_or, drop, Some, sym, refl, ap, ◌∙◌, arith, length-append}
 use mathlib.Core.List.{map-append}
 use Rattle.std.specs.List.{slice_get}
 use Rattle.std.proofs.lemmas.List.{at_drop_more, at_drop_all}
@@ -9,7 +9,7 @@ use Rattle.table.specs.declared.node.Node.{Node}
 use Rattle.tree.specs.Places.{key_at, key_of_node}
 use Rattle.walk.specs.declared.entries.Entry.{Entry}
 use Rattle.walked.specs.Walk.{starts_by, starts_from, reaches_right, open_of}
-use Rattle.trees.specs.Tree.{more, grow, key_of}
+use Rattle.trees.specs.Tree.{grow, key_of}
 use Rattle.table.specs.Reading.{tree_at}
 use Rattle.tree.proofs.Picks.{key-tree}
 use Rattle.walk.specs.Entries.{entry, tree_of, trees_of, reaches_at, open_entries}

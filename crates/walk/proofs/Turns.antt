@@ -1,5 +1,5 @@
 -- One step of a walk: the entry on top is taken, and the nodes that it leads to join.
-use Rattle.std.proofs.Common.{◌≡◌, ℕ, zero, suc, ◌+◌, ◌-◌, ◌*◌, ◌≤◌, Bool, true, false, cond, ◌&&◌, List, [], ◌∷◌, ◌++◌, length, Some, Option, sym, refl, ap, ◌∙◌, subst, arith, length-append}
+use Rattle.std.proofs.Common.{◌≡◌, ℕ, zero, suc, ◌+◌, ◌*◌, ◌≤◌, Bool, true, false, cond, ◌&&◌, List, [], ◌∷◌, ◌++◌, length, Some, Option, sym, refl, ap, ◌∙◌, subst, arith, length-append}
 use mathlib.Core.List.{map-append}
 use Rattle.std.specs.List.{slice_get, flat_map, AllByRecursion as All}
 use Rattle.std.proofs.ByRecursion.{All-append, All-from_get_or}

@@ -1,3 +1,5 @@
 // The walks over the tree in a table.
+#![tactic(auto)]
+
 pub mod entries;
 pub mod range;

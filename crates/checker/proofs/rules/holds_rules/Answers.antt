@@ -1,8 +1,7 @@
-use Rattle.std.proofs.Common.{◌≡◌, [], ◌∷◌, length, None, sym, refl, ap, ◌∙◌, subst, eqb-true}
+use Rattle.std.proofs.Common.{length, None, sym, refl, ap, ◌∙◌, subst, eqb-true}
 use base.Stored.{coded_ℕ}
 use Rattle.trees.specs.Tree.{grow, points_all}
 use Rattle.trees.specs.Rules.{kept_all}
-use Rattle.table.specs.Kids.{kids_of}
 use Rattle.table.specs.Reading.{tree_at}
 use Rattle.checker.specs.Passes.{PassesAll}
 use Rattle.checker.proofs.Passed.{passes-checked}
