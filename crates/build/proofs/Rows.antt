@@ -3,7 +3,7 @@ use Rattle.std.proofs.Common.{◌≡◌, ℕ, zero, suc, ◌+◌, ◌-◌, ◌<�
 use Rattle.std.proofs.lemmas.Bool.{cond-true, cond-false, lt-ltb, le-ltb, cases_lt, cases_eq}
 use Rattle.trees.specs.Tree.{hit}
 use Rattle.shapes.specs.Shape.{occurs}
-use Rattle.built.specs.Build.{occurs as occursIn, row as row_of}
+use Rattle.built.specs.Build.{occurs as occurs_in, row as row_of}
 use Rattle.table.specs.Kids.{kids_of}
 use Rattle.table.specs.Spares.{row}
 use Rattle.table.specs.Reading.{inside}
@@ -71,11 +71,11 @@ same_row : (n p : ℕ) → row_of n p ≡ row n p
 same_row zero p = refl
 same_row (suc n) p = ap (λ ps. p ∷ ps) (same_row n (suc p))
 
-same-occurs : (q : ℕ) (ps : List ℕ) → occursIn q ps ≡ occurs q ps
+same-occurs : (q : ℕ) (ps : List ℕ) → occurs_in q ps ≡ occurs q ps
 same-occurs q [] = refl
 same-occurs q (p ∷ ps) = ap (λ n. hit p q + n) (same-occurs q ps)
 
-pub same_count : (q n p : ℕ) → occursIn q (row_of n p) ≡ occurs q (row n p)
+pub same_count : (q n p : ℕ) → occurs_in q (row_of n p) ≡ occurs q (row n p)
 same_count q n p = same-occurs q (row_of n p) ∙ ap (occurs q) (same_row n p)
 
 -- ---- children in a row

@@ -1,7 +1,7 @@
 -- A weight changed in the tree of a table: the three steps one after the other, and what stands then.
 use Rattle.std.proofs.Common.{◌≡◌, ℕ, ◌<◌, true, T, List, [], ◌∷◌, length, sym, ap, ◌∙◌, subst, arith}
 use lib.ListN.{length-map}
-use Rattle.std.specs.List.{slice_get, AllByRecursion as All}
+use Rattle.std.specs.List.{slice_get, AllByRecursion}
 use Rattle.kinds.specs.Meaning.{Meaning, First, Second}
 use Rattle.plain.specs.declared.point.Key.{Key}
 use Rattle.plain.specs.declared.point.Point.{Point}
@@ -26,7 +26,7 @@ use Rattle.change.specs.Weighed.{reweighed}
 use Rattle.change.proofs.Stands.{forest-some}
 
 -- what holds of each place that stands in a list
-all-occurs : (P : ℕ → Type 0) (qs : List ℕ) → ((q : ℕ) → 0 < occurs q qs → P q) → All P qs
+all-occurs : (P : ℕ → Type 0) (qs : List ℕ) → ((q : ℕ) → 0 < occurs q qs → P q) → AllByRecursion P qs
 all-occurs P [] h = tt
 all-occurs P (p ∷ qs) h = (h p (omega (arith, hit-here p)), all-occurs P qs (λ q o. h q (omega arith)))
 

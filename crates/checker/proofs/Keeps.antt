@@ -3,7 +3,7 @@ use Rattle.std.proofs.Common.{◌≡◌, ℕ, zero, suc, ◌+◌, ◌≤◌, Boo
 use base.Stored.{Coded}
 use Rattle.std.specs.Ordering.{is_lt}
 use Rattle.std.specs.Option.{option_to_list}
-use Rattle.std.specs.List.{ContainsAt as Has, AllByRecursion as All}
+use Rattle.std.specs.List.{ContainsAt, AllByRecursion}
 use Rattle.std.proofs.ByRecursion.{All-append, All-weaker, all-has, has_append_left, has_append_right}
 use Rattle.kinds.specs.Meaning.{Meaning, First, Second}
 use Rattle.plain.specs.declared.point.Key.{Key}
@@ -37,22 +37,22 @@ module _ {C W R : Type 0} (m : Meaning C W R) where
 
   -- each point kept is one of the tree's
   mutual
-    kept-has : (t : Tree C W) → OnPath t → All (Has (points t)) (kept t)
+    kept-has : (t : Tree C W) → OnPath t → AllByRecursion (ContainsAt (points t)) (kept t)
     kept-has (gone p) on = tt
     kept-has (leaf p x o) on = on
-    kept-has (fork p k o ts) on = All-append (Has (points_all ts)) (option_to_list o) (kept_all ts) on.0 (kept-hases ts on.1)
+    kept-has (fork p k o ts) on = All-append (ContainsAt (points_all ts)) (option_to_list o) (kept_all ts) on.0 (kept-hases ts on.1)
 
-    kept-hases : (ts : Forest C W) → OnPathAll ts → All (Has (points_all ts)) (kept_all ts)
+    kept-hases : (ts : Forest C W) → OnPathAll ts → AllByRecursion (ContainsAt (points_all ts)) (kept_all ts)
     kept-hases none on = tt
     kept-hases (more t ts) on =
-        All-append (Has (points t ++ points_all ts)) (kept t) (kept_all ts)
-        (All-weaker (Has (points t)) (Has (points t ++ points_all ts)) (λ x. has_append_left (points t) (points_all ts) x) (kept t) (kept-has t on.0))
-        (All-weaker (Has (points_all ts)) (Has (points t ++ points_all ts)) (λ x. has_append_right (points t) (points_all ts) x) (kept_all ts) (kept-hases ts on.1))
+        All-append (ContainsAt (points t ++ points_all ts)) (kept t) (kept_all ts)
+        (All-weaker (ContainsAt (points t)) (ContainsAt (points t ++ points_all ts)) (λ x. has_append_left (points t) (points_all ts) x) (kept t) (kept-has t on.0))
+        (All-weaker (ContainsAt (points_all ts)) (ContainsAt (points t ++ points_all ts)) (λ x. has_append_right (points t) (points_all ts) x) (kept_all ts) (kept-hases ts on.1))
 
-  fit-some : (xs ys : List (Point C W)) → AllFit m xs → All (Has xs) ys → AllFit m ys
-  fit-some xs ys fit has = All-weaker (Has xs) (FitPoint m) (λ x i. all-has (FitPoint m) xs x fit i) ys has
+  fit-some : (xs ys : List (Point C W)) → AllFit m xs → AllByRecursion (ContainsAt xs) ys → AllFit m ys
+  fit-some xs ys fit has = All-weaker (ContainsAt xs) (FitPoint m) (λ x i. all-has (FitPoint m) xs x fit i) ys has
 
-  none_after : (zs : List (Point C W)) → All (After m None) zs → zs ≡ []
+  none_after : (zs : List (Point C W)) → AllByRecursion (After m None) zs → zs ≡ []
   none_after [] a = refl
   none_after (z ∷ zs) a = absurd a.0
 
@@ -66,7 +66,7 @@ module _ {C W R : Type 0} (m : Meaning C W R) where
         go false e = clash (ap is_lt q) (rank-carry m first second y x z fy fx fz (rank-asym m first second x y fx fy (ap is_lt p)) e)
 
     -- what comes after a point that comes after o comes after o
-    after-carries : (o q : Option (Point C W)) (zs : List (Point C W)) → AllFit m (option_to_list o) → AllFit m (option_to_list q) → AllFit m zs → All (After m o) (option_to_list q) → All (After m q) zs → All (After m o) zs
+    after-carries : (o q : Option (Point C W)) (zs : List (Point C W)) → AllFit m (option_to_list o) → AllFit m (option_to_list q) → AllFit m zs → AllByRecursion (After m o) (option_to_list q) → AllByRecursion (After m q) zs → AllByRecursion (After m o) zs
     after-carries o q [] fo fq fz a b = tt
     after-carries o None (z ∷ zs) fo fq fz a b = absurd b.0
     after-carries None (Some y) (z ∷ zs) fo fq fz a b = absurd a.0
@@ -74,7 +74,7 @@ module _ {C W R : Type 0} (m : Meaning C W R) where
         (less-carries x y z fo.0 fq.0 fz.0 a.0 b.0, after-carries (Some x) (Some y) zs fo fq fz.1 a b.1)
 
     mutual
-      after-of : (t : Tree C W) (u : Option (Key C)) (h : ℕ) → Passes m t u h → (o : Option (Point C W)) → AllFit m (option_to_list o) → All (After m o) (option_to_list (kept_by t)) → All (After m o) (kept t)
+      after-of : (t : Tree C W) (u : Option (Key C)) (h : ℕ) → Passes m t u h → (o : Option (Point C W)) → AllFit m (option_to_list o) → AllByRecursion (After m o) (option_to_list (kept_by t)) → AllByRecursion (After m o) (kept t)
       after-of (gone p) u h q o fo f = tt
       after-of (leaf p x i) u h q o fo f = f
       after-of (fork p k i ts) u zero q o fo f = absurd q
@@ -84,17 +84,17 @@ module _ {C W R : Type 0} (m : Meaning C W R) where
           let fk = fit-some (points_all ts) (kept_all ts) fit (kept-hases ts (path-all ts (Some i) u h q.1)) in
           All-append (After m o) (option_to_list i) (kept_all ts) f (after-carries o i (kept_all ts) fo fi fk f (after-all ts i u h q.1 fi))
 
-      after-all : (ts : Forest C W) (o : Option (Point C W)) (u : Option (Key C)) (h : ℕ) → PassesAll m ts (Some o) u h → AllFit m (option_to_list o) → All (After m o) (kept_all ts)
+      after-all : (ts : Forest C W) (o : Option (Point C W)) (u : Option (Key C)) (h : ℕ) → PassesAll m ts (Some o) u h → AllFit m (option_to_list o) → AllByRecursion (After m o) (kept_all ts)
       after-all none o u h q fo = tt
       after-all (more t ts) o u h q fo =
           All-append (After m o) (kept t) (kept_all ts) (after-of t (next_key ts u) h q.1 o fo q.0) (after-all ts o u h q.2 fo)
 
     -- all that is kept below a fork comes after what it keeps
-    after-fork : (p : ℕ) (k : Key C) (o : Option (Point C W)) (ts : Forest C W) (u : Option (Key C)) (h : ℕ) → Passes m (fork p k o ts) u (suc h) → All (After m o) (kept_all ts)
+    after-fork : (p : ℕ) (k : Key C) (o : Option (Point C W)) (ts : Forest C W) (u : Option (Key C)) (h : ℕ) → Passes m (fork p k o ts) u (suc h) → AllByRecursion (After m o) (kept_all ts)
     after-fork p k o ts u h q = after-all ts o u h q.1 (fit-some (points_all ts) (option_to_list o) (fit_all m ts (Some o) u h q.1) q.0.3)
 
-    filled-here : (o : Option (Point C W)) (ts : Forest C W) → All (After m o) (kept_all ts) → o ≡ None → kept_all ts ≡ []
-    filled-here o ts a e = none_after (kept_all ts) (subst (λ i. All (After m i) (kept_all ts)) e a)
+    filled-here : (o : Option (Point C W)) (ts : Forest C W) → AllByRecursion (After m o) (kept_all ts) → o ≡ None → kept_all ts ≡ []
+    filled-here o ts a e = none_after (kept_all ts) (subst (λ i. AllByRecursion (After m i) (kept_all ts)) e a)
 
     mutual
       pub filled_of : (t : Tree C W) (u : Option (Key C)) (h : ℕ) → Passes m t u h → Filled t
@@ -107,7 +107,7 @@ module _ {C W R : Type 0} (m : Meaning C W R) where
       filled-all none a u h q = tt
       filled-all (more t ts) a u h q = (filled_of t (next_key ts u) h q.1, filled-all ts a u h q.2)
 
-    ranked-here : (o : Option (Point C W)) (zs : List (Point C W)) → All (After m o) zs → All (λ x. All (λ y. rank_order m x y ≡ Less) zs) (option_to_list o)
+    ranked-here : (o : Option (Point C W)) (zs : List (Point C W)) → AllByRecursion (After m o) zs → AllByRecursion (λ x. AllByRecursion (λ y. rank_order m x y ≡ Less) zs) (option_to_list o)
     ranked-here None zs a = tt
     ranked-here (Some x) zs a = (a, tt)
 
@@ -124,7 +124,7 @@ module _ {C W R : Type 0} (m : Meaning C W R) where
 
     -- ---- none twice
     module _ (kc : Coded C) (kw : Coded W) where
-      has-le : (f : Point C W → ℕ) (x : Point C W) (xs : List (Point C W)) → Has xs x → f x ≤ total f xs
+      has-le : (f : Point C W → ℕ) (x : Point C W) (xs : List (Point C W)) → ContainsAt xs x → f x ≤ total f xs
       has-le f x xs i = all-has (λ w. f w ≤ total f xs) xs x (all_of (λ w. f w ≤ total f xs) xs (λ w j. member-le f w xs j)) i
 
       -- no point comes after itself
@@ -136,7 +136,7 @@ module _ {C W R : Type 0} (m : Meaning C W R) where
           go (inr e) = clash (ap is_lt (subst (λ w. rank_order m x w ≡ Less) (sym e) l)) (rank-self m first second x fx)
 
       -- a point kept at a fork, and those kept below it
-      held-once : (o : Option (Point C W)) (ts : Forest C W) (z : Point C W) → All (Has (points_all ts)) (option_to_list o) → AllFit m (option_to_list o) → All (After m o) (kept_all ts) → tally_all ts (is kc kw z) ≤ total (is kc kw z) (points_all ts) → held (is kc kw z) o + tally_all ts (is kc kw z) ≤ total (is kc kw z) (points_all ts)
+      held-once : (o : Option (Point C W)) (ts : Forest C W) (z : Point C W) → AllByRecursion (ContainsAt (points_all ts)) (option_to_list o) → AllFit m (option_to_list o) → AllByRecursion (After m o) (kept_all ts) → tally_all ts (is kc kw z) ≤ total (is kc kw z) (points_all ts) → held (is kc kw z) o + tally_all ts (is kc kw z) ≤ total (is kc kw z) (points_all ts)
       held-once None ts z has fit a le = omega arith
       held-once (Some x) ts z has fit a le = go (tell kc kw z x)
         where
@@ -147,7 +147,7 @@ module _ {C W R : Type 0} (m : Meaning C W R) where
               let one : is kc kw x x + tally_all ts (is kc kw x) ≤ total (is kc kw x) (points_all ts) = omega (arith, kept-totals (is kc kw x) ts, has-le (is kc kw x) x (points_all ts) has.0) in
               subst (λ w. is kc kw w x + tally_all ts (is kc kw w) ≤ total (is kc kw w) (points_all ts)) (sym e) one
 
-      held-leaf : (x : Point C W) (o : Option (Point C W)) (z : Point C W) → All (Has (x ∷ [])) (option_to_list o) → held (is kc kw z) o ≤ total (is kc kw z) (x ∷ [])
+      held-leaf : (x : Point C W) (o : Option (Point C W)) (z : Point C W) → AllByRecursion (ContainsAt (x ∷ [])) (option_to_list o) → held (is kc kw z) o ≤ total (is kc kw z) (x ∷ [])
       held-leaf x None z has = omega arith
       held-leaf x (Some y) z has = has-le (is kc kw z) y (x ∷ []) has.0
 

@@ -1,6 +1,6 @@
 -- Some trees in a table, by the node of the first.
 use Rattle.std.proofs.Common.{◌≡◌, ℕ, ◌-◌, ◌≤◌, Bool, true, false, cond, not, List, [], ◌∷◌, ◌++◌, length, Some, None, Option, sym, refl, ap, ◌∙◌, subst, arith, length-append}
-use Rattle.std.specs.List.{slice_get, ContainsAt as Has, AllByRecursion as All}
+use Rattle.std.specs.List.{slice_get, ContainsAt, AllByRecursion}
 use Rattle.std.specs.Option.{option_to_list}
 use Rattle.std.proofs.ByRecursion.{has_append_left, has_append_right}
 use Rattle.kinds.specs.Meaning.{Meaning}
@@ -38,13 +38,13 @@ module _ {C W R : Type 0} (m : Meaning C W R) (ns : List (Node C R)) where
 
     -- ---- a point that stands in them
     module _ (x : Point C W) where
-      pub has-below : (h ≡ 0 → ⊥) → Has (points_all (under h n)) x → Has (points_all (grow (tree_at m ns h) ps)) x
+      pub has-below : (h ≡ 0 → ⊥) → ContainsAt (points_all (under h n)) x → ContainsAt (points_all (grow (tree_at m ns h) ps)) x
       has-below pos i =
-          subst (λ ts. Has (points_all ts) x) (sym (trees-fork pos))
+          subst (λ ts. ContainsAt (points_all ts) x) (sym (trees-fork pos))
           (has_append_left (points_all (under h n)) (points_all (grow (tree_at m ns h) qs)) x i)
 
-      pub has-after : Has (points_all (grow (tree_at m ns h) qs)) x → Has (points_all (grow (tree_at m ns h) ps)) x
-      has-after i = subst (λ l. Has (points_all (grow (tree_at m ns h) l)) x) (sym parts) (has_append_right (points (tree_at m ns h p)) (points_all (grow (tree_at m ns h) qs)) x i)
+      pub has-after : ContainsAt (points_all (grow (tree_at m ns h) qs)) x → ContainsAt (points_all (grow (tree_at m ns h) ps)) x
+      has-after i = subst (λ l. ContainsAt (points_all (grow (tree_at m ns h) l)) x) (sym parts) (has_append_right (points (tree_at m ns h p)) (points_all (grow (tree_at m ns h) qs)) x i)
 
     -- ---- how many points they have, and how many are kept
     pub count-fork : (h ≡ 0 → ⊥) → (own below rest all : Counts) → own.points ≡ 0 → own.kept ≡ cond n.keeps 1 0
@@ -80,12 +80,12 @@ module _ {C W R : Type 0} (m : Meaning C W R) (ns : List (Node C R)) where
 
   -- a fork passes by its parts
   pub fork-of : (h : ℕ) (n : Node C R) → 2 ≤ length (kids_of n.children) → next_at ns (kids_of n.children) None ≡ Some (key_in n.own)
-      → (n.keeps ≡ true → Has (points_all (grow (tree_at m ns h) (kids_of n.children))) (point_in m n.kept)) → ForkPasses m (key_in n.own) (kept_in m n) (grow (tree_at m ns h) (kids_of n.children))
+      → (n.keeps ≡ true → ContainsAt (points_all (grow (tree_at m ns h) (kids_of n.children))) (point_in m n.kept)) → ForkPasses m (key_in n.own) (kept_in m n) (grow (tree_at m ns h) (kids_of n.children))
   fork-of h n two head has =
       let kids = kids_of n.children in
       let long = count-grow (tree_at m ns h) kids in
       (omega arith, omega (arith, few n.children), heads-at h (key_in n.own) kids head, go n.keeps has)
     where
-      go : (b : Bool) → (b ≡ true → Has (points_all (grow (tree_at m ns h) (kids_of n.children))) (point_in m n.kept)) → All (Has (points_all (grow (tree_at m ns h) (kids_of n.children)))) (option_to_list (cond b (Some (point_in m n.kept)) None))
+      go : (b : Bool) → (b ≡ true → ContainsAt (points_all (grow (tree_at m ns h) (kids_of n.children))) (point_in m n.kept)) → AllByRecursion (ContainsAt (points_all (grow (tree_at m ns h) (kids_of n.children)))) (option_to_list (cond b (Some (point_in m n.kept)) None))
       go true i = (i refl, tt)
       go false i = tt

@@ -1,6 +1,6 @@
 -- What passes has its shape, its keys and its order.
 use Rattle.std.proofs.Common.{◌≡◌, ℕ, zero, suc, List, [], ◌∷◌, ◌++◌, Some, None, Option, sym, refl, subst}
-use Rattle.std.specs.List.{AllByRecursion as All}
+use Rattle.std.specs.List.{AllByRecursion}
 use Rattle.std.proofs.ByRecursion.{All-append, All-weaker}
 use Rattle.kinds.specs.Meaning.{Meaning, First}
 use Rattle.plain.specs.declared.point.Key.{Key}
@@ -78,11 +78,11 @@ module _ {C W R : Type 0} (m : Meaning C W R) where
     fit_all (more t ts) a u h q = All-append (FitPoint m) (points t) (points_all ts) (fit_of t (next_key ts u) h q.1) (fit_all ts a u h q.2)
 
   -- ---- the order
-  rising-append : (xs ys : List (Point C W)) → Rising m xs → Rising m ys → All (λ x. All (λ y. Before m x.key y.key) ys) xs → Rising m (xs ++ ys)
+  rising-append : (xs ys : List (Point C W)) → Rising m xs → Rising m ys → AllByRecursion (λ x. AllByRecursion (λ y. Before m x.key y.key) ys) xs → Rising m (xs ++ ys)
   rising-append [] ys r s c = s
   rising-append (x ∷ xs) ys r s c = (All-append (λ y. Before m x.key y.key) xs ys r.0 c.0, rising-append xs ys r.1 s c.1)
 
-  under_first : (u : Option (Key C)) (j : Key C) (xs ys : List (Point C W)) → FirstKey j xs → All (λ x. Under m u x.key) (xs ++ ys) → Under m u j
+  under_first : (u : Option (Key C)) (j : Key C) (xs ys : List (Point C W)) → FirstKey j xs → AllByRecursion (λ x. Under m u x.key) (xs ++ ys) → Under m u j
   under_first u j [] ys f a = absurd f
   under_first u j (x ∷ xs) ys f a = subst (Under m u) (sym f) a.0
 
@@ -92,20 +92,20 @@ module _ {C W R : Type 0} (m : Meaning C W R) where
     under-carries (Some v) k j b c = before-carries m first k j v b c
 
     -- what is before the first of some trees is before their end
-    weaken : (ts : Forest C W) (a : Option (Option (Point C W))) (u : Option (Key C)) (h : ℕ) → PassesAll m ts a u h → All (λ x. Under m u x.key) (points_all ts) → (k : Key C) → Under m (next_key ts u) k → Under m u k
+    weaken : (ts : Forest C W) (a : Option (Option (Point C W))) (u : Option (Key C)) (h : ℕ) → PassesAll m ts a u h → AllByRecursion (λ x. Under m u x.key) (points_all ts) → (k : Key C) → Under m (next_key ts u) k → Under m u k
     weaken none a u h q all k b = b
     weaken (more t ts) a u h q all k b =
         let (j, e) = has_key t (next_key ts u) h q.1 in
         under-carries u k j (subst (λ o. Under m o k) e b) (under_first u j (points t) (points_all ts) (first_key_lem t (next_key ts u) h q.1 j e) all)
 
     mutual
-      under_of : (t : Tree C W) (u : Option (Key C)) (h : ℕ) → Passes m t u h → All (λ x. Under m u x.key) (points t)
+      under_of : (t : Tree C W) (u : Option (Key C)) (h : ℕ) → Passes m t u h → AllByRecursion (λ x. Under m u x.key) (points t)
       under_of (gone p) u h q = tt
       under_of (leaf p x o) u h q = (q.1.1, tt)
       under_of (fork p k o ts) u zero q = absurd q
       under_of (fork p k o ts) u (suc h) q = under_all ts (Some o) u h q.1
 
-      under_all : (ts : Forest C W) (a : Option (Option (Point C W))) (u : Option (Key C)) (h : ℕ) → PassesAll m ts a u h → All (λ x. Under m u x.key) (points_all ts)
+      under_all : (ts : Forest C W) (a : Option (Option (Point C W))) (u : Option (Key C)) (h : ℕ) → PassesAll m ts a u h → AllByRecursion (λ x. Under m u x.key) (points_all ts)
       under_all none a u h q = tt
       under_all (more t ts) a u h q =
           let rest = under_all ts a u h q.2 in
@@ -114,7 +114,7 @@ module _ {C W R : Type 0} (m : Meaning C W R) where
           rest
 
     -- what is before the first of some trees is before all their points
-    later : (ts : Forest C W) (a : Option (Option (Point C W))) (u : Option (Key C)) (h : ℕ) → PassesAll m ts a u h → Rising m (points_all ts) → (k : Key C) → Under m (next_key ts u) k → All (λ y. Before m k y.key) (points_all ts)
+    later : (ts : Forest C W) (a : Option (Option (Point C W))) (u : Option (Key C)) (h : ℕ) → PassesAll m ts a u h → Rising m (points_all ts) → (k : Key C) → Under m (next_key ts u) k → AllByRecursion (λ y. Before m k y.key) (points_all ts)
     later none a u h q r k b = tt
     later (more t ts) a u h q r k b =
         let (j, e) = has_key t (next_key ts u) h q.1 in
@@ -132,4 +132,4 @@ module _ {C W R : Type 0} (m : Meaning C W R) where
       rising-all (more t ts) a u h q =
           let rest = rising-all ts a u h q.2 in
           rising-append (points t) (points_all ts) (rising-of t (next_key ts u) h q.1) rest
-          (All-weaker (λ x. Under m (next_key ts u) x.key) (λ x. All (λ y. Before m x.key y.key) (points_all ts)) (λ x. later ts a u h q.2 rest x.key) (points t) (under_of t (next_key ts u) h q.1))
+          (All-weaker (λ x. Under m (next_key ts u) x.key) (λ x. AllByRecursion (λ y. Before m x.key y.key) (points_all ts)) (λ x. later ts a u h q.2 rest x.key) (points t) (under_of t (next_key ts u) h q.1))

@@ -1,6 +1,6 @@
 // Points that are the same, and whether a point stands in some trees.
 ghost use Rattle.std.specs.Prelude.{◌≡◌, true};
-ghost use Rattle.std.specs.List.{ContainsAt as Has};
+ghost use Rattle.std.specs.List.{ContainsAt};
 ghost use Rattle.trees.specs.Tree.{grow, points_all};
 ghost use Rattle.table.specs.Kids.{kids_of};
 ghost use Rattle.table.specs.Reading.{point_in, tree_at};
@@ -24,7 +24,7 @@ pub fn has_point<K: Kind<Coordinate = u64, Recorded = u32>>(
     height: u8,
     x: Stored<u64, u32>,
 ) -> bool
-    ensures { result ≡ true → Has (points_all (grow (tree_at K.Kind.meaning nodes.now height) (kids_of children))) (point_in K.Kind.meaning x) }
+    ensures { result ≡ true → ContainsAt (points_all (grow (tree_at K.Kind.meaning nodes.now height) (kids_of children))) (point_in K.Kind.meaning x) }
 {
     let Some(s) = parted(children) else {
         return false;

@@ -1,7 +1,7 @@
 -- A leaf more below a node: what the table holds once the child has grown.
 use Rattle.std.proofs.Common.{◌≡◌, ℕ, zero, suc, ◌+◌, ◌<◌, ◌≤◌, Bool, cond, leb, List, [], ◌∷◌, ◌++◌, length, get_or, take, drop, set, Some, None, Option, unwrap_or, sym, refl, ap, ◌∙◌, subst, arith, length-set}
 use borrow.Author.Tests.{le-true}
-use Rattle.std.specs.List.{slice_get, AllByRecursion as All}
+use Rattle.std.specs.List.{slice_get, AllByRecursion}
 use Rattle.std.specs.Option.{option_to_list}
 use Rattle.std.proofs.lemmas.Bool.{cond-true}
 use Rattle.kinds.specs.Meaning.{Meaning}
@@ -201,5 +201,5 @@ module _ {C W R : Type 0} (m : Meaning C W R) where
             let part = subst (λ t. full t most ≤ full_all ts most) child-is (full-nth ts most i inner) in
             omega (arith, has, yes, part, ap length ins.spare, grew.free, grew.nodes)
 
-        pub spares-in : All (λ q. q < length b) (spares b g)
+        pub spares-in : AllByRecursion (λ q. q < length b) (spares b g)
         spares-in = all-inside (length b) (spares b g) (λ q. subst (λ k. occurs q (spares b g) ≤ inside k q) (sym len) (subst (λ l. occurs q l ≤ inside (length a) q) (sym ins.spare) (omega (arith, apart-now q))))

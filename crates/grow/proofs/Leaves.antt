@@ -1,6 +1,6 @@
 -- A new leaf beside another: in the table, as in the tree.
 use Rattle.std.proofs.Common.{◌≡◌, ℕ, ◌+◌, ◌<◌, ◌≤◌, true, false, cond, List, [], ◌∷◌, length, set, Some, None, sym, ap, ◌∙◌, subst, arith, length-set}
-use Rattle.std.specs.List.{slice_get, AllByRecursion as All}
+use Rattle.std.specs.List.{slice_get, AllByRecursion}
 use Rattle.std.specs.Ordering.{is_lt}
 use Rattle.kinds.specs.Meaning.{Meaning}
 use Rattle.plain.specs.Points.{key_order}
@@ -33,7 +33,7 @@ module _ {C W R : Type 0} (m : Meaning C W R) (a : List (Node C R)) (f : Free) (
 
 -- the first free place and the others, by what was taken
 module _ {C W R : Type 0} (m : Meaning C W R) (a : List (Node C R)) (f g : Free) (h at : ℕ) (r : Ready m a f h at) where
-  pub spares-within : All (λ q. q < length a) (spares a f)
+  pub spares-within : AllByRecursion (λ q. q < length a) (spares a f)
   spares-within = all-occurring (λ q. q < length a) (spares a f) (λ q o. inside-lt (length a) q (omega (arith, r.apart q)))
 
   pub some-spare : 0 < length (spares a f)

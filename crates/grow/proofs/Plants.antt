@@ -1,7 +1,7 @@
 -- A point more in the whole tree: in the table, as in the tree.
 use Rattle.std.proofs.Common.{◌≡◌, ℕ, suc, ◌+◌, ◌-◌, ◌<◌, ◌≤◌, true, leb, List, [], ◌∷◌, length, set, Some, Option, sym, refl, ap, ◌∙◌, subst, arith, length-set, le-leb}
 use borrow.Author.Tests.{lt-leb}
-use Rattle.std.specs.List.{AllByRecursion as All}
+use Rattle.std.specs.List.{AllByRecursion}
 use Rattle.std.proofs.lemmas.Bool.{cond-true, cond-false}
 use Rattle.kinds.specs.Meaning.{Meaning}
 use Rattle.plain.specs.declared.point.Point.{Point}
@@ -64,7 +64,7 @@ module _ {C W R : Type 0} (m : Meaning C W R) (a : List (Node C R)) (f : Free) (
   pub left_over : 0 < length (spares b g)
   left_over = omega (arith, room, grew.free, grew.nodes, ap length ins.spare)
 
-  pub spares-in : All (λ q. q < length b) (spares b g)
+  pub spares-in : AllByRecursion (λ q. q < length b) (spares b g)
   spares-in = all-inside (length b) (spares b g) (λ q. subst (λ n. occurs q (spares b g) ≤ inside n q) (sym len) (subst (λ l. occurs q l ≤ inside (length a) q) (sym ins.spare) (omega (arith, each q))))
 
   -- the root was not split

@@ -1,6 +1,6 @@
 -- After one point more the tree stands as it should.
 use Rattle.std.proofs.Common.{◌≡◌, ℕ, suc, ◌+◌, ◌*◌, ◌^◌, ◌<◌, ◌≤◌, false, eqb, List, [], ◌∷◌, length, sym, refl, ap, ◌∙◌, subst, arith, length-append, pow_mono, eq-eqb, ne_eqb}
-use Rattle.std.specs.List.{AllByRecursion as All}
+use Rattle.std.specs.List.{AllByRecursion}
 use Rattle.std.proofs.lemmas.Bool.{cond-true, cond-false}
 use Rattle.kinds.specs.Meaning.{Meaning, First, Second}
 use Rattle.plain.specs.declared.point.Point.{Point}
@@ -41,7 +41,7 @@ module _ {C W R : Type 0} (m : Meaning C W R) (a : List (Node C R)) (hd : Header
   pub met : wants f ≤ length qs
   met = wants-met (suc hd.count) hd.height f (length qs) s.holds (omega (arith, s.counted)) (omega (arith, s.free, room))
 
-  pub spares-in : All (λ q. q < length a) qs
+  pub spares-in : AllByRecursion (λ q. q < length a) qs
   spares-in = all-inside (length a) qs (λ q. omega (arith, s.places q))
 
   pub spares-once : (q : ℕ) → occurs q qs ≤ 1

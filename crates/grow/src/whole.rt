@@ -1,6 +1,6 @@
 // A point more in the whole tree.
 ghost use Rattle.std.specs.Prelude.{◌≡◌, ℕ, suc, ◌*◌, ◌<◌, ◌≤◌, true, false, length};
-ghost use Rattle.std.specs.List.{AllByRecursion as All};
+ghost use Rattle.std.specs.List.{AllByRecursion};
 ghost use Rattle.plain.specs.Points.{FitPoint};
 ghost use Rattle.plain.specs.Set.{put, stands};
 ghost use Rattle.refusals.specs.Limits.{most_nodes};
@@ -48,7 +48,7 @@ fn plant<K: Kind>(
 ) -> Top
     requires small { length nodes.old ≤ most_nodes }
     requires some { 0 < length (spares nodes.old free.old) }
-    requires within { All (λ q. q < length nodes.old) (spares nodes.old free.old) }
+    requires within { AllByRecursion (λ q. q < length nodes.old) (spares nodes.old free.old) }
     requires apart { (q : ℕ) → occurs q (spares nodes.old free.old) ≤ 1 }
     ensures { Planted K.Kind.meaning nodes.old nodes.new free.old free.new 0 none (point_in K.Kind.meaning x) result.height result.root }
 {

@@ -2,7 +2,7 @@
 use Rattle.std.proofs.Common.{◌≡◌, ℕ, ◌+◌, ◌≤◌, Bool, true, false, cond, eqb, ◌⊎◌, List, [], ◌∷◌, ◌++◌, sym, refl, ap, ◌∙◌, subst, inl, inr, arith}
 use base.Stored.{Gv, gnil, gnum, gcons, Coded}
 use Rattle.std.specs.List.Sorted.{IsPermutation}
-use Rattle.std.specs.List.{ContainsAt as Has, AllByRecursion as All}
+use Rattle.std.specs.List.{ContainsAt, AllByRecursion}
 use Rattle.std.proofs.lemmas.Bool.{eqb-true, eq-eqb, cond-true}
 use Rattle.std.proofs.ByRecursion.{has_append_right}
 use Rattle.std.proofs.lemmas.List.Sorted.{IsPermutation-refl, IsPermutation-cons, IsPermutation-swap, IsPermutation-trans}
@@ -49,12 +49,12 @@ module _ {X : Type 0} where
     here : (xs : List X) → Member x (x ∷ xs)
     there : (y : X) (xs : List X) → Member x xs → Member x (y ∷ xs)
 
-  pub has_of : (x : X) (xs : List X) → Member x xs → Has xs x
+  pub has_of : (x : X) (xs : List X) → Member x xs → ContainsAt xs x
   has_of x [] i = elim i [ ]
   has_of x (y ∷ ys) (here _) = (0, omega arith, λ d. refl)
   has_of x (y ∷ ys) (there _ _ i) = has_append_right (y ∷ []) ys x (has_of x ys i)
 
-  pub all_of : (P : X → Type 0) (xs : List X) → ((x : X) → Member x xs → P x) → All P xs
+  pub all_of : (P : X → Type 0) (xs : List X) → ((x : X) → Member x xs → P x) → AllByRecursion P xs
   all_of P [] k = tt
   all_of P (x ∷ xs) k = (k x (here xs), all_of P xs (λ y i. k y (there x xs i)))
 
@@ -121,7 +121,7 @@ module _ {C W : Type 0} (kc : Coded C) (kw : Coded W) where
       go (inr e) ih = subst (λ w. Member x (w ∷ ys)) e (here ys)
 
   -- a point that each sum counts is there
-  pub has-among : (x : Point C W) (xs : List (Point C W)) → ((f : Point C W → ℕ) → f x ≤ total f xs) → Has xs x
+  pub has-among : (x : Point C W) (xs : List (Point C W)) → ((f : Point C W → ℕ) → f x ≤ total f xs) → ContainsAt xs x
   has-among x xs h = has_of x xs (member x xs (omega (arith, h (is x), is-self x)))
 
   -- lists with the same sums have the same points, each as often

@@ -1,7 +1,7 @@
 -- Among points that rise, one at most has a key; and what no sum tells apart.
 use Rattle.std.proofs.Common.{◌≡◌, ℕ, ◌+◌, ◌-◌, ◌≤◌, Bool, true, false, ◌⊎◌, List, [], ◌∷◌, sym, refl, ◌∙◌, subst, inl, inr, arith}
 use Rattle.std.specs.Ordering.{is_eq}
-use Rattle.std.specs.List.{AllByRecursion as All}
+use Rattle.std.specs.List.{AllByRecursion}
 use Rattle.kinds.specs.Meaning.{Meaning, First}
 use Rattle.plain.specs.declared.point.Key.{Key}
 use Rattle.plain.specs.declared.point.Point.{Point}
@@ -27,7 +27,7 @@ module _ {C W R : Type 0} (m : Meaning C W R) (first : First m) (k : Key C) wher
     where
       go : (b : Bool) → is_eq (key_order m k y.key) ≡ b → One ys → One (y ∷ ys)
       go true e i =
-          let late : All (λ z. Before m k z.key) ys = subst (λ (j : Key C). All (λ z. Before m j z.key) ys) (sym (tie m first k y.key (eq-equal (key_order m k y.key) e))) a in
+          let late : AllByRecursion (λ z. Before m k z.key) ys = subst (λ (j : Key C). AllByRecursion (λ z. Before m j z.key) ys) (sym (tie m first k y.key (eq-equal (key_order m k y.key) e))) a in
           inr (y, λ f. omega (arith, only-tied m k f y e, total-none (only m k f) (λ z. Before m k z.key) (only-late m k f first) ys late))
       go false e (inl i) = inl (λ f. omega (arith, only-apart m k f y e, i f))
       go false e (inr i) = inr (i.0, λ f. omega (arith, only-apart m k f y e, i.1 f))

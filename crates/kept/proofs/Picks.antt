@@ -1,7 +1,7 @@
 -- The child on the way to a key: all points before it are sooner, all points after it later.
 use Rattle.std.proofs.Common.{◌≡◌, ℕ, suc, ◌<◌, ◌≤◌, Bool, true, false, cond, ◌≢◌, List, [], ◌∷◌, ◌++◌, Some, sym, refl, ap, ◌∙◌, arith}
 use Rattle.std.specs.Ordering.{is_eq}
-use Rattle.std.specs.List.{AllByRecursion as All}
+use Rattle.std.specs.List.{AllByRecursion}
 use Rattle.std.proofs.ByRecursion.{All-append}
 use Rattle.std.proofs.lemmas.Bool.{cond-false}
 use Rattle.kinds.specs.Meaning.{Meaning, First, Second}
@@ -44,7 +44,7 @@ module _ {C W R : Type 0} (m : Meaning C W R) (first : First m) (second : Second
 
   -- the trees before number i have points before the key, those after it points after the key
   abbrev pub Sides : Key C → ℕ → Forest C W → Type 0
-  Sides k i ts = All (λ x. Before m x.key k) (points_all (front i ts)) × All (λ x. Before m k x.key) (points_all (back (suc i) ts))
+  Sides k i ts = AllByRecursion (λ x. Before m x.key k) (points_all (front i ts)) × AllByRecursion (λ x. Before m k x.key) (points_all (back (suc i) ts))
 
   sides : (k : Key C) (h : ℕ) (t : Tree C W) (ts : Forest C W) → LevelAll ts h → KeyedAll ts → Rising m (points t ++ points_all ts) → Sides k (run m k ts) (more t ts)
   sides k h t none l d r = (tt, tt)
@@ -91,11 +91,11 @@ module _ {C W R : Type 0} (m : Meaning C W R) (first : First m) (second : Second
       )
 
   -- ---- look-ups
-  weight-skip : (k : Key C) (xs ys : List (Point C W)) → All (λ x. Before m x.key k) xs → weight_at m k (xs ++ ys) ≡ weight_at m k ys
+  weight-skip : (k : Key C) (xs ys : List (Point C W)) → AllByRecursion (λ x. Before m x.key k) xs → weight_at m k (xs ++ ys) ≡ weight_at m k ys
   weight-skip k [] ys a = refl
   weight-skip k (x ∷ xs) ys (b, a) = cond-false (is_eq (key_order m k x.key)) (Some x.weight) (weight_at m k (xs ++ ys)) (apart-back m first x.key k b) ∙ weight-skip k xs ys a
 
-  weight-stop : (k : Key C) (xs ys : List (Point C W)) → All (λ y. Before m k y.key) ys → weight_at m k (xs ++ ys) ≡ weight_at m k xs
+  weight-stop : (k : Key C) (xs ys : List (Point C W)) → AllByRecursion (λ y. Before m k y.key) ys → weight_at m k (xs ++ ys) ≡ weight_at m k xs
   weight-stop k [] ys a = missing m first k ys a
   weight-stop k (x ∷ xs) ys a = ap (λ o. cond (is_eq (key_order m k x.key)) (Some x.weight) o) (weight-stop k xs ys a)
 

@@ -1,6 +1,6 @@
 -- Sums over the points of a list and over those kept in a tree: split in two, and zero where two others are.
 use Rattle.std.proofs.Common.{◌≡◌, ℕ, ◌+◌, ◌≤◌, List, [], ◌∷◌, Some, None, Option, refl, arith}
-use Rattle.std.specs.List.{AllByRecursion as All}
+use Rattle.std.specs.List.{AllByRecursion}
 use Rattle.kinds.specs.Meaning.{Meaning}
 use Rattle.plain.specs.declared.point.Point.{Point}
 use Rattle.trees.specs.Tree.{Tree, Forest, gone, leaf, fork, none, more, kept_by, points, points_all}
@@ -44,7 +44,7 @@ module _ {C W : Type 0} where
       tallies-zero none a b = refl
       tallies-zero (more t ts) a b = omega (arith, tally-zero t (omega arith) (omega arith), tallies-zero ts (omega arith) (omega arith))
 
-  pub total-none : (g : Point C W → ℕ) (P : Point C W → Type 0) → ((z : Point C W) → P z → g z ≡ 0) → (xs : List (Point C W)) → All P xs → total g xs ≡ 0
+  pub total-none : (g : Point C W → ℕ) (P : Point C W → Type 0) → ((z : Point C W) → P z → g z ≡ 0) → (xs : List (Point C W)) → AllByRecursion P xs → total g xs ≡ 0
   total-none g P k [] a = refl
   total-none g P k (x ∷ xs) (p, a) = omega (arith, k x p, total-none g P k xs a)
 

@@ -3,7 +3,7 @@ use Rattle.std.proofs.Common.{◌≡◌, ℕ, ◌+◌, ◌≤◌, true, false, L
 use base.Stored.{Coded}
 use Rattle.std.specs.Ordering.{is_lt, is_eq, ordering_reverse}
 use Rattle.std.specs.Option.{option_to_list}
-use Rattle.std.specs.List.{ContainsAt as Has, AllByRecursion as All}
+use Rattle.std.specs.List.{ContainsAt, AllByRecursion}
 use Rattle.kinds.specs.Meaning.{Meaning, First, Second}
 use Rattle.plain.specs.declared.point.Point.{Point}
 use Rattle.plain.specs.Points.{key_order, rank_order, FitPoint}
@@ -60,7 +60,7 @@ module _ {C W R : Type 0} (m : Meaning C W R) (first : First m) (second : Second
 
   -- a kept point precedes all that are kept below it
   ranked-here : (o : Option (Point C W)) (ts : Forest C W) → Rising m (points_all ts) → AllFit m (points_all ts) → ((f : Point C W → ℕ) → held f o + tally_all ts f ≤ total f (points_all ts)) → tally_all ts (over m o) ≡ 0 →
-      All (λ x. All (λ y. rank_order m x y ≡ Less) (kept_all ts)) (option_to_list o)
+      AllByRecursion (λ x. AllByRecursion (λ y. rank_order m x y ≡ Less) (kept_all ts)) (option_to_list o)
   ranked-here None ts r fit am ov = tt
   ranked-here (Some x) ts r fit am ov = (all_of (λ y. rank_order m x y ≡ Less) (kept_all ts) each, tt)
     where
@@ -104,7 +104,7 @@ module _ {C W R : Type 0} (m : Meaning C W R) (first : First m) (second : Second
     )
 
   module _ (kc : Coded C) (kw : Coded W) where
-    kept_here : (o : Option (Point C W)) (xs : List (Point C W)) → ((f : Point C W → ℕ) → held f o ≤ total f xs) → All (Has xs) (option_to_list o)
+    kept_here : (o : Option (Point C W)) (xs : List (Point C W)) → ((f : Point C W → ℕ) → held f o ≤ total f xs) → AllByRecursion (ContainsAt xs) (option_to_list o)
     kept_here None xs h = tt
     kept_here (Some x) xs h = (has-among kc kw x xs h, tt)
 

@@ -1,7 +1,7 @@
 -- The leaf of a point gets another weight.
 use Rattle.std.proofs.Common.{◌≡◌, ℕ, zero, suc, ◌+◌, Bool, true, false, cond, List, [], ◌∷◌, ◌++◌, is_some, Some, None, Option, sym, refl, ap, ◌∙◌, arith}
 use Rattle.std.specs.Ordering.{is_eq}
-use Rattle.std.specs.List.{AllByRecursion as All}
+use Rattle.std.specs.List.{AllByRecursion}
 use Rattle.std.proofs.lemmas.Bool.{cond-false}
 use Rattle.kinds.specs.Meaning.{Meaning, First, Second}
 use Rattle.plain.specs.declared.point.Key.{Key}
@@ -77,7 +77,7 @@ module _ {C W R : Type 0} (m : Meaning C W R) (first : First m) (second : Second
   weigh-total h x w t s hp room = (weigh-both h x w t s hp room).1
 
   -- ---- the points are those of the plain set
-  reweigh-skip : (k : Key C) (w : W) (xs ys : List (Point C W)) → All (λ x. Before m x.key k) xs → reweigh m k w (xs ++ ys) ≡ xs ++ reweigh m k w ys
+  reweigh-skip : (k : Key C) (w : W) (xs ys : List (Point C W)) → AllByRecursion (λ x. Before m x.key k) xs → reweigh m k w (xs ++ ys) ≡ xs ++ reweigh m k w ys
   reweigh-skip k w [] ys a = refl
   reweigh-skip k w (x ∷ xs) ys (b, a) =
       cond-false (is_eq (key_order m k x.key)) (weighing x w ∷ (xs ++ ys)) (x ∷ reweigh m k w (xs ++ ys)) (apart-back m first x.key k b)

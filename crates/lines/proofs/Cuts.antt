@@ -1,6 +1,6 @@
 -- A line is cut at its first blank, and a text at its first newline, in one way.
 use Rattle.std.proofs.Common.{◌≡◌, ℕ, suc, ◌+◌, ◌-◌, ◌<◌, List, [], ◌∷◌, ◌++◌, length, get_or, take, drop, sym, refl, ap, ◌∙◌, subst, arith, length-append}
-use Rattle.std.specs.List.{AllByRecursion as All}
+use Rattle.std.specs.List.{AllByRecursion}
 use Rattle.std.proofs.lemmas.List.{take-append-drop, drop_more, take_rest, get_or_at}
 use Rattle.std.proofs.ByRecursion.{All-get_or}
 use Rattle.lines.specs.Digits.{Ten}
@@ -10,7 +10,7 @@ use Rattle.lines.specs.Grammar.{Head, Then}
 abbrev pub Lacks : ℕ → List ℕ → Type 0
 Lacks b x = (k : ℕ) → k < length x → get_or x k 0 ≡ b → ⊥
 
-pub no-blank : (x : List ℕ) → All Ten x → Lacks 32 x
+pub no-blank : (x : List ℕ) → AllByRecursion Ten x → Lacks 32 x
 no-blank x h k lt e = let d = All-get_or Ten x k 0 lt h in omega (arith, d.0, e)
 
 -- a list is cut at the place of a blank

@@ -1,6 +1,6 @@
 -- Numbers in digits.
 use Rattle.std.specs.Prelude.{◌≡◌, ℕ, ◌+◌, ◌-◌, ◌*◌, ◌<◌, ◌≤◌, cond, ◌⊎◌, List, [], ◌∷◌, length, nat_le}
-use Rattle.std.specs.List.{AllByRecursion as All}
+use Rattle.std.specs.List.{AllByRecursion}
 use Rattle.lines.specs.Limits.{most_digits, pattern_digits}
 
 -- a decimal digit: the bytes 0 to 9
@@ -22,7 +22,7 @@ writes base n (b ∷ bs) = writes base (n * base + digit b) bs
 
 -- decimal digits, at least one and not too many, that write n, which is at most top
 pub record Decimal (top n : ℕ) (bs : List ℕ) : Type 0 where
-  pub digits : All Ten bs
+  pub digits : AllByRecursion Ten bs
   pub some : 0 < length bs
   pub few : length bs ≤ most_digits
   pub value : n ≡ writes 10 0 bs
@@ -30,6 +30,6 @@ pub record Decimal (top n : ℕ) (bs : List ℕ) : Type 0 where
 
 -- as many digits of a pattern as it has, that write n
 pub record Pattern (n : ℕ) (bs : List ℕ) : Type 0 where
-  pub digits : All Hex bs
+  pub digits : AllByRecursion Hex bs
   pub eight : length bs ≡ pattern_digits
   pub value : n ≡ writes 16 0 bs

@@ -2,7 +2,7 @@
 use Rattle.std.proofs.Common.{◌≡◌, ℕ, Bool, true, false, cond, T, List, [], ◌∷◌, is_some, Some, None, Option, Ordering, Less, Greater, sym, refl, ap, ◌∙◌, inl, inr, arith}
 use lib.Ieee.{Float, nan, inf, fin, le}
 use Rattle.std.specs.Ordering.{is_eq, ordering_reverse}
-use Rattle.std.specs.List.{AllByRecursion as All}
+use Rattle.std.specs.List.{AllByRecursion}
 use Rattle.std.proofs.ByRecursion.{All-weaker, all_kept_by}
 use Rattle.std.proofs.lemmas.Bool.{true≢false}
 use Rattle.kinds.specs.Meaning.{Meaning, First, Second, Numbering}
@@ -76,7 +76,7 @@ module _ {C W R : Type 0} (m : Meaning C W R) (law : First m) where
     abbrev key_of : Point C W → Key C
     key_of p = p.key
 
-    counted : (ps : List (Point C W)) → AllFit m ps → All (λ p. T (nonneg (number_at p))) ps
+    counted : (ps : List (Point C W)) → AllFit m ps → AllByRecursion (λ p. T (nonneg (number_at p))) ps
     counted ps f = All-weaker (FitPoint m) _ (λ p h. plain-nonneg (number_at p) (fit-plain (number_at p) (numbering.small p.key.at p.weight h))) ps f
 
     sorted : (ps : List (Point C W)) → Rising m ps → grown.Sorted key_of number_at (Before m) never ps

@@ -1,7 +1,7 @@
 -- What put, remove and reweigh keep and change.
 use Rattle.std.proofs.Common.{◌≡◌, suc, Bool, true, false, cond, T, List, [], ◌∷◌, ◌++◌, length, is_some, Some, None, filter, Option, sym, refl, ap, ◌∙◌, subst}
 use Rattle.std.specs.Ordering.{is_lt, is_eq}
-use Rattle.std.specs.List.{AllByRecursion as All}
+use Rattle.std.specs.List.{AllByRecursion}
 use Rattle.std.proofs.ByRecursion.{All-weaker, all_kept_by}
 use Rattle.std.proofs.lemmas.Bool.{true≢false, not-false, cond_both, cond-true, cond-false}
 use Rattle.kinds.specs.Meaning.{Meaning, First}
@@ -26,26 +26,26 @@ module _ {C W R : Type 0} (m : Meaning C W R) where
 
   -- ---- each point of the new list is the new one or an old one
   module _ (Q : P → Type 0) where
-    pub all-put : (x : P) (ps : List P) → Q x → All Q ps → All Q (put m x ps)
+    pub all-put : (x : P) (ps : List P) → Q x → AllByRecursion Q ps → AllByRecursion Q (put m x ps)
     all-put x [] q h = (q, tt)
     all-put x (p ∷ ps) q h =
-        elim (is_lt (key_order m x.key p.key)) as (λ b. All Q (cond b (x ∷ p ∷ ps) (p ∷ put m x ps))) [
+        elim (is_lt (key_order m x.key p.key)) as (λ b. AllByRecursion Q (cond b (x ∷ p ∷ ps) (p ∷ put m x ps))) [
           | true ↦ (q, h)
           | false ↦ (h.0, all-put x ps q h.1)
         ]
 
-    pub all_remove : (k : Key C) (ps : List P) → All Q ps → All Q (remove m k ps)
+    pub all_remove : (k : Key C) (ps : List P) → AllByRecursion Q ps → AllByRecursion Q (remove m k ps)
     all_remove k [] h = tt
     all_remove k (p ∷ ps) h =
-        elim (is_eq (key_order m k p.key)) as (λ b. All Q (cond b ps (p ∷ remove m k ps))) [
+        elim (is_eq (key_order m k p.key)) as (λ b. AllByRecursion Q (cond b ps (p ∷ remove m k ps))) [
           | true ↦ h.1
           | false ↦ (h.0, all_remove k ps h.1)
         ]
 
-    pub all-reweigh : (k : Key C) (w : W) (ps : List P) → ((p : P) → Q p → is_eq (key_order m k p.key) ≡ true → Q (record { key = p.key; weight = w })) → All Q ps → All Q (reweigh m k w ps)
+    pub all-reweigh : (k : Key C) (w : W) (ps : List P) → ((p : P) → Q p → is_eq (key_order m k p.key) ≡ true → Q (record { key = p.key; weight = w })) → AllByRecursion Q ps → AllByRecursion Q (reweigh m k w ps)
     all-reweigh k w [] f h = tt
     all-reweigh k w (p ∷ ps) f h =
-        cond_both (is_eq (key_order m k p.key)) (record { key = p.key; weight = w } ∷ ps) (p ∷ reweigh m k w ps) (All Q)
+        cond_both (is_eq (key_order m k p.key)) (record { key = p.key; weight = w } ∷ ps) (p ∷ reweigh m k w ps) (AllByRecursion Q)
         (λ e. (f p h.0 e, h.1))
         (λ e. (h.0, all-reweigh k w ps f h.1))
 
@@ -121,7 +121,7 @@ module _ {C W R : Type 0} (m : Meaning C W R) where
         ]
 
     -- what is after the last is after all
-    pub after-all : (ps : List P) (k : Key C) → Rising m ps → not_after_last m ps k ≡ false → All (λ p. Before m p.key k) ps
+    pub after-all : (ps : List P) (k : Key C) → Rising m ps → not_after_last m ps k ≡ false → AllByRecursion (λ p. Before m p.key k) ps
     after-all [] k h e = tt
     after-all (p ∷ []) k h e = (lt-less (key_order m p.key k) (not-false (is_lt (key_order m p.key k)) e), tt)
     after-all (p ∷ q ∷ ps) k h e =
@@ -129,17 +129,17 @@ module _ {C W R : Type 0} (m : Meaning C W R) where
         (before-carries m law p.key q.key k h.0.0 rest.0, rest)
 
     -- one point more at the end, as a load takes it
-    pub rising-push : (ps : List P) (x : P) → Rising m ps → All (λ p. Before m p.key x.key) ps → Rising m (ps ++ (x ∷ []))
+    pub rising-push : (ps : List P) (x : P) → Rising m ps → AllByRecursion (λ p. Before m p.key x.key) ps → Rising m (ps ++ (x ∷ []))
     rising-push [] x h b = (tt, tt)
     rising-push (p ∷ ps) x h b = (all_end ps h.0 b.0, rising-push ps x h.1 b.1)
       where
-        all_end : (qs : List P) → All (λ q. Before m p.key q.key) qs → Before m p.key x.key → All (λ q. Before m p.key q.key) (qs ++ (x ∷ []))
+        all_end : (qs : List P) → AllByRecursion (λ q. Before m p.key q.key) qs → Before m p.key x.key → AllByRecursion (λ q. Before m p.key q.key) (qs ++ (x ∷ []))
         all_end [] a c = (c, tt)
         all_end (q ∷ qs) a c = (a.0, all_end qs a.1 c)
 
     -- ---- look-ups after each
     -- a key before all does not stand
-    pub missing : (k : Key C) (ps : List P) → All (λ p. Before m k p.key) ps → weight_at m k ps ≡ None
+    pub missing : (k : Key C) (ps : List P) → AllByRecursion (λ p. Before m k p.key) ps → weight_at m k ps ≡ None
     missing k [] h = refl
     missing k (p ∷ ps) h = cond-false (is_eq (key_order m k p.key)) _ _ (apart m law k p.key h.0) ∙ missing k ps h.1
 
@@ -186,7 +186,7 @@ module _ {C W R : Type 0} (m : Meaning C W R) where
         cond_both (is_eq (key_order m k p.key)) ps (p ∷ remove m k ps) (λ (l : List P). weight_at m q l ≡ cond (is_eq (key_order m q k)) None (weight_at m q (p ∷ ps)))
         (λ e. subst (λ (j : Key C). weight_at m q ps ≡ cond (is_eq (key_order m q j)) None (weight_at m q (p ∷ ps))) (sym (tie m law k p.key (eq-equal _ e)))
         (gone (is_eq (key_order m q p.key)) (Some p.weight) (weight_at m q ps)
-        (λ a. missing q ps (subst (λ (j : Key C). All (λ r. Before m j r.key) ps) (sym (tie m law q p.key (eq-equal _ a))) h.0))))
+        (λ a. missing q ps (subst (λ (j : Key C). AllByRecursion (λ r. Before m j r.key) ps) (sym (tie m law q p.key (eq-equal _ a))) h.0))))
         (λ e. past (is_eq (key_order m q p.key)) (is_eq (key_order m q k)) (Some p.weight) None (weight_at m q ps) (weight_at m q (remove m k ps)) (clash k p.key q e) rest)
 
     over : (b s : Bool) (w : W) (y o : Option W) → s ≡ true → cond b (Some w) o ≡ cond b (cond s (Some w) None) (cond b y o)

@@ -1,7 +1,7 @@
 -- The plain set: a list of points that rises in key order, and what changes make of it.
 use Rattle.std.specs.Prelude.{Bool, false, cond, not, List, [], ◌∷◌, is_some, Some, None, Option}
 use Rattle.std.specs.Ordering.{is_eq, is_lt}
-use Rattle.std.specs.List.{AllByRecursion as All}
+use Rattle.std.specs.List.{AllByRecursion}
 use Rattle.kinds.specs.Meaning.{Meaning}
 use Rattle.plain.specs.declared.point.Key.{Key}
 use Rattle.plain.specs.declared.point.Point.{Point}
@@ -11,11 +11,11 @@ module _ {C W R : Type 0} (m : Meaning C W R) where
   -- each point's key is before the keys of all that follow, so that no key stands twice
   abbrev pub Rising : List (Point C W) → Type 0
   Rising [] = Unit {0}
-  Rising (p ∷ ps) = All (λ q. Before m p.key q.key) ps × Rising ps
+  Rising (p ∷ ps) = AllByRecursion (λ q. Before m p.key q.key) ps × Rising ps
 
   -- each point is fit
   abbrev pub AllFit : List (Point C W) → Type 0
-  AllFit ps = All (FitPoint m) ps
+  AllFit ps = AllByRecursion (FitPoint m) ps
 
   -- the weight of a key, if the key stands
   abbrev pub weight_at : Key C → List (Point C W) → Option W

@@ -2,7 +2,7 @@
 use Rattle.std.specs.Prelude.{◌≡◌, ℕ, Bool, not, ◌&&◌, T, ◌⊎◌, List, [], ◌∷◌, map, take, filter, Float}
 use Rattle.std.specs.Float.Ieee.{le}
 use Rattle.std.specs.Ordering.{is_le, is_gt}
-use Rattle.std.specs.List.{AllByRecursion as All}
+use Rattle.std.specs.List.{AllByRecursion}
 use Rattle.kinds.specs.Meaning.{Meaning}
 use Rattle.sums.specs.Sum.{sum_of}
 use Rattle.plain.specs.declared.point.Point.{Point}
@@ -43,4 +43,4 @@ One P (x ∷ xs) = P x ⊎ One P xs
 
 -- each key of the first list stands in the second, at a weight whose number is no smaller
 abbrev pub Covered : {C W : Type 0} → (W → Float) → List (Point C W) → List (Point C W) → Type 0
-Covered number ps qs = All (λ p. One (λ q. (p.key ≡ q.key) × T (le (number p.weight) (number q.weight))) qs) ps
+Covered number ps qs = AllByRecursion (λ p. One (λ q. (p.key ≡ q.key) × T (le (number p.weight) (number q.weight))) qs) ps

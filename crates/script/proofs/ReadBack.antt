@@ -1,6 +1,6 @@
 -- A pattern that is printed is read back.
 use Rattle.std.proofs.Common.{◌≡◌, ℕ, zero, suc, ◌+◌, ◌*◌, ◌/◌, ◌%◌, ◌^◌, ◌<◌, List, [], ◌∷◌, ◌++◌, length, refl, pow-suc, arith, rules}
-use Rattle.std.specs.List.{AllByRecursion as All}
+use Rattle.std.specs.List.{AllByRecursion}
 use Rattle.std.proofs.ByRecursion.{All-push}
 use Rattle.std.proofs.lemmas.List.{length_push}
 use Rattle.lines.specs.Digits.{Hex, digit, writes}
@@ -18,7 +18,7 @@ unfolding hex_text
 hex-length zero n = refl
 hex-length (suc k) n = omega (arith, length_push (hex_text k (n / 16)) (hex_byte (n % 16)), hex-length k (n / 16))
 
-hex-digits : (k n : ℕ) → All Hex (hex_text k n)
+hex-digits : (k n : ℕ) → AllByRecursion Hex (hex_text k n)
 unfolding hex_text
 hex-digits zero n = tt
 hex-digits (suc k) n = All-push Hex (hex_text k (n / 16)) (hex_byte (n % 16)) (hex-digits k (n / 16)) (hex-digit (n % 16) (omega arith)).0

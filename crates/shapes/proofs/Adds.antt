@@ -1,7 +1,7 @@
 -- One leaf more: the points are those of the set with one point more, and the points kept stand as they should.
 use Rattle.std.proofs.Common.{◌≡◌, ℕ, zero, suc, ◌+◌, ◌≤◌, true, false, cond, leb, List, [], ◌∷◌, ◌++◌, length, is_some, Some, None, Option, sym, refl, ap, ◌∙◌, subst, append-nil, add-one, arith}
 use Rattle.std.specs.Ordering.{is_lt}
-use Rattle.std.specs.List.{AllByRecursion as All}
+use Rattle.std.specs.List.{AllByRecursion}
 use Rattle.std.proofs.lemmas.Bool.{cond_both, leb-false}
 use Rattle.kinds.specs.Meaning.{Meaning, First, Second}
 use Rattle.plain.specs.declared.point.Key.{Key}
@@ -75,7 +75,7 @@ module _ {C W R : Type 0} (m : Meaning C W R) (first : First m) (second : Second
       let sl = sorted-left m h l (more t r) s' in
       let sr = sorted-right m h (more t none) r (sorted-right m h l (more t r) s') in
       let (before, later) = pick-sides m first second x.key h ts s in
-      let after : All (λ y. Before m x.key y.key) (points_all r) = subst (λ j. All (λ y. Before m x.key y.key) (points_all (back j ts))) (sym (add-one i)) later in
+      let after : AllByRecursion (λ y. Before m x.key y.key) (points_all r) = subst (λ j. AllByRecursion (λ y. Before m x.key y.key) (points_all (back j ts))) (sym (add-one i)) later in
       let was : points_all ts ≡ points_all l ++ (points t ++ points_all r) = ap points_all (sym e) ∙ points-⊕ l (more t r) in
       let now : points_all (l ⊕ (us ⊕ r)) ≡ points_all l ++ (put m x (points t) ++ points_all r) =
       points-⊕ l (us ⊕ r) ∙ ap (λ v. points_all l ++ v) (points-⊕ us r ∙ ap (λ v. v ++ points_all r) a.same) in

@@ -1,7 +1,7 @@
 -- A point more and a point less, in the middle of points that rise.
 use Rattle.std.proofs.Common.{◌≡◌, ℕ, ◌+◌, Bool, true, false, cond, List, [], ◌∷◌, ◌++◌, is_some, Some, sym, refl, ap, ◌∙◌, arith}
 use Rattle.std.specs.Ordering.{is_lt, is_eq, ordering_reverse}
-use Rattle.std.specs.List.{AllByRecursion as All}
+use Rattle.std.specs.List.{AllByRecursion}
 use Rattle.std.proofs.lemmas.Bool.{cond-true, cond-false, true≢false}
 use Rattle.kinds.specs.Meaning.{Meaning, First}
 use Rattle.plain.specs.declared.point.Key.{Key}
@@ -22,7 +22,7 @@ module _ {C W R : Type 0} (m : Meaning C W R) where
       ]
 
   -- ---- after points before it, and before points after it
-  pub put-stop : (x : Point C W) (xs ys : List (Point C W)) → All (λ y. Before m x.key y.key) ys → put m x (xs ++ ys) ≡ put m x xs ++ ys
+  pub put-stop : (x : Point C W) (xs ys : List (Point C W)) → AllByRecursion (λ y. Before m x.key y.key) ys → put m x (xs ++ ys) ≡ put m x xs ++ ys
   put-stop x [] [] a = refl
   put-stop x [] (y ∷ ys) a = cond-true (is_lt (key_order m x.key y.key)) (x ∷ y ∷ ys) (y ∷ put m x ys) (ap is_lt a.0)
   put-stop x (p ∷ xs) ys a =
@@ -40,13 +40,13 @@ module _ {C W R : Type 0} (m : Meaning C W R) where
       ]) e
 
   module _ (first : First m) where
-    pub put-skip : (x : Point C W) (xs ys : List (Point C W)) → All (λ y. Before m y.key x.key) xs → put m x (xs ++ ys) ≡ xs ++ put m x ys
+    pub put-skip : (x : Point C W) (xs ys : List (Point C W)) → AllByRecursion (λ y. Before m y.key x.key) xs → put m x (xs ++ ys) ≡ xs ++ put m x ys
     put-skip x [] ys a = refl
     put-skip x (p ∷ xs) ys a =
         cond-false (is_lt (key_order m x.key p.key)) (x ∷ p ∷ (xs ++ ys)) (p ∷ put m x (xs ++ ys)) (ap is_lt (turned m first p.key x.key ∙ ap ordering_reverse a.0))
         ∙ ap (λ l. p ∷ l) (put-skip x xs ys a.1)
 
-    pub remove-skip : (k : Key C) (xs ys : List (Point C W)) → All (λ y. Before m y.key k) xs → remove m k (xs ++ ys) ≡ xs ++ remove m k ys
+    pub remove-skip : (k : Key C) (xs ys : List (Point C W)) → AllByRecursion (λ y. Before m y.key k) xs → remove m k (xs ++ ys) ≡ xs ++ remove m k ys
     remove-skip k [] ys a = refl
     remove-skip k (p ∷ xs) ys a =
         cond-false (is_eq (key_order m k p.key)) (xs ++ ys) (p ∷ remove m k (xs ++ ys)) (apart-back m first p.key k a.0)

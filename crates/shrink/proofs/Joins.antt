@@ -1,6 +1,6 @@
 -- Two neighbours whose children are laid out anew: in the table, as in the tree.
 use Rattle.std.proofs.Common.{◌≡◌, ℕ, suc, ◌+◌, ◌-◌, ◌<◌, ◌≤◌, List, [], ◌∷◌, ◌++◌, length, Some, None, sym, ap, ◌∙◌, subst, arith}
-use Rattle.std.specs.List.{slice_get, AllByRecursion as All}
+use Rattle.std.specs.List.{slice_get, AllByRecursion}
 use Rattle.kinds.specs.Meaning.{Meaning}
 use Rattle.plain.specs.declared.point.Key.{Key}
 use Rattle.trees.specs.Tree.{Tree, Forest, fork, none, more, ◌⊕◌, grow, count, children_of, kept_by, hit, uses, uses_all}
@@ -224,8 +224,8 @@ module _ {C W R : Type 0} (m : Meaning C W R) (a : List (Node C R)) (H l r : ℕ
       pub give-within : r < length d
       give-within = omega (arith, within-r)
 
-      pub give-apart : All (λ q. q ≡ r → ⊥) (spares d f)
-      give-apart = subst (All (λ q. q ≡ r → ⊥)) (sym free-same) (none-occurring r (spares a f) (omega (arith, sp.apart r, inside_one (length a) r, root-r)))
+      pub give-apart : AllByRecursion (λ q. q ≡ r → ⊥) (spares d f)
+      give-apart = subst (AllByRecursion (λ q. q ≡ r → ⊥)) (sym free-same) (none-occurring r (spares a f) (omega (arith, sp.apart r, inside_one (length a) r, root-r)))
 
       pub give-room : length (spares d f) < 65535
       give-room = subst (λ qs. length qs < 65535) (sym free-same) sp.room

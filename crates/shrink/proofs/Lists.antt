@@ -1,6 +1,6 @@
 -- Lists of places: one place more at the end, and one that changes sides.
 use Rattle.std.proofs.Common.{◌≡◌, ℕ, zero, suc, ◌+◌, ◌<◌, ◌≤◌, Bool, true, false, cond, List, [], ◌∷◌, ◌++◌, length, get_or, take, drop, sym, refl, ap, ◌∙◌, append_assoc, arith}
-use Rattle.std.specs.List.{AllByRecursion as All}
+use Rattle.std.specs.List.{AllByRecursion}
 use Rattle.std.proofs.ByRecursion.{All-append, All-take, All-drop}
 
 take-zero : (xs : List ℕ) → take 0 xs ≡ []
@@ -98,10 +98,10 @@ put_two ps j one lt =
     go (p ∷ q ∷ ps) (suc j) false lt = ap (λ l. p ∷ l) (go (q ∷ ps) j false (omega arith))
 
 -- the places that are left
-pub all_left : (P : ℕ → Type 0) (i j : ℕ) (ps : List ℕ) → All P ps → All P (take i ps ++ drop j ps)
+pub all_left : (P : ℕ → Type 0) (i j : ℕ) (ps : List ℕ) → AllByRecursion P ps → AllByRecursion P (take i ps ++ drop j ps)
 all_left P i j ps h = All-append P (take i ps) (drop j ps) (All-take P i ps h) (All-drop P j ps h)
 
-pub all-left-if : (P : ℕ → Type 0) (one : Bool) (i j : ℕ) (ps : List ℕ) → All P ps → All P (cond one (take i ps ++ drop j ps) ps)
+pub all-left-if : (P : ℕ → Type 0) (one : Bool) (i j : ℕ) (ps : List ℕ) → AllByRecursion P ps → AllByRecursion P (cond one (take i ps ++ drop j ps) ps)
 all-left-if P true i j ps h = all_left P i j ps h
 all-left-if P false i j ps h = h
 

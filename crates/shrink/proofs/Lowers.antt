@@ -1,7 +1,7 @@
 -- A root with one child goes: in the table, as in the tree.
 use Rattle.std.proofs.Common.{◌≡◌, ℕ, suc, ◌+◌, ◌-◌, ◌<◌, ◌≤◌, cond, List, [], ◌∷◌, length, get_or, Some, sym, refl, ap, ◌∙◌, subst, arith, le-leb}
 use borrow.Author.Tests.{lt-leb}
-use Rattle.std.specs.List.{slice_get, AllByRecursion as All}
+use Rattle.std.specs.List.{slice_get, AllByRecursion}
 use Rattle.kinds.specs.Meaning.{Meaning}
 use Rattle.trees.specs.Tree.{Tree, none, more, grow, count, children_of, place_of, kept_by, hit, uses, uses_all}
 use Rattle.trees.specs.Moves.{seated, lowered}
@@ -66,8 +66,8 @@ module _ {C W R : Type 0} (m : Meaning C W R) (a : List (Node C R)) (f : Free) (
     pub root-within : p < length b
     root-within = omega (arith, sound-within m a H p s.sound)
 
-    pub root-apart : All (λ q. q ≡ p → ⊥) (spares b f)
-    root-apart = subst (All (λ q. q ≡ p → ⊥)) (sym free-same) (none-occurring p (spares a f) (omega (arith, s.apart p, counted p, hit-here p, inside_one (length a) p)))
+    pub root-apart : AllByRecursion (λ q. q ≡ p → ⊥) (spares b f)
+    root-apart = subst (AllByRecursion (λ q. q ≡ p → ⊥)) (sym free-same) (none-occurring p (spares a f) (omega (arith, s.apart p, counted p, hit-here p, inside_one (length a) p)))
 
     pub root-room : length (spares b f) < 65535
     root-room = subst (λ qs. length qs < 65535) (sym free-same) s.room

@@ -1,7 +1,7 @@
 -- A node of which one child may have too few children: in the table, as in the tree.
 use Rattle.std.proofs.Common.{◌≡◌, ℕ, suc, ◌+◌, ◌-◌, ◌<◌, ◌≤◌, Bool, false, cond, eqb, List, [], ◌∷◌, ◌++◌, length, get_or, take, drop, Some, Option, sym, ap, ◌∙◌, subst, arith, eqb-true, le-leb}
 use borrow.Author.Tests.{lt-leb, eqb-false}
-use Rattle.std.specs.List.{slice_get, AllByRecursion as All}
+use Rattle.std.specs.List.{slice_get, AllByRecursion}
 use Rattle.kinds.specs.Meaning.{Meaning}
 use Rattle.plain.specs.declared.point.Key.{Key}
 use Rattle.plain.specs.declared.point.Point.{Point}
@@ -46,7 +46,7 @@ module _ {C W R : Type 0} (m : Meaning C W R) (a : List (Node C R)) (f : Free) (
   pub node-within : p < length a
   node-within = inside-lt (length a) p (omega (arith, s.apart p, hit-here p))
 
-  pub children-within : All (λ q. q < length a) ps
+  pub children-within : AllByRecursion (λ q. q < length a) ps
   children-within = trees-within m a h ps s.sounds
 
   off : uses_all ts p ≡ 0

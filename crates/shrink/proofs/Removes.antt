@@ -1,6 +1,6 @@
 -- A tree without one leaf: in the table, as in the tree.
 use Rattle.std.proofs.Common.{◌≡◌, ℕ, zero, suc, ◌+◌, ◌-◌, ◌<◌, ◌≤◌, Bool, cond, eqb, ltb, leb, List, ◌∷◌, ◌++◌, length, get_or, take, drop, Some, Option, sym, refl, ap, ◌∙◌, subst, arith}
-use Rattle.std.specs.List.{slice_get, AllByRecursion as All}
+use Rattle.std.specs.List.{slice_get, AllByRecursion}
 use Rattle.std.proofs.lemmas.Bool.{cond_both}
 use Rattle.kinds.specs.Meaning.{Meaning}
 use Rattle.plain.specs.declared.point.Key.{Key}
@@ -128,7 +128,7 @@ module _ {C W R : Type 0} (m : Meaning C W R) (a : List (Node C R)) (f : Free) w
     pub here : p < length a
     here = inside-lt (length a) p (omega (arith, apart p, hit-here p))
 
-    pub within : All (λ q. q < length a) ps
+    pub within : AllByRecursion (λ q. q < length a) ps
     within = trees-within m a h ps (record { level = levels; degrees = looser-all ts degrees.2; apart = λ q. omega (arith, apart q) })
 
     at-child : nth_tree i ts ≡ branch_at c
@@ -165,7 +165,7 @@ module _ {C W R : Type 0} (m : Meaning C W R) (a : List (Node C R)) (f : Free) w
     child-within = inside-lt (length a) c (omega (arith, apart c, counted c, child-uses c, hit-here c))
 
     -- ---- the child is a leaf, and goes
-    pub child-apart : All (λ q. q ≡ c → ⊥) (spares a f)
+    pub child-apart : AllByRecursion (λ q. q ≡ c → ⊥) (spares a f)
     child-apart = none-occurring c (spares a f) (omega (arith, apart c, counted c, child-uses c, hit-here c, inside_one (length a) c))
 
     pub child-room : length (spares a f) < 65535

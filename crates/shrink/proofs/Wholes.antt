@@ -1,6 +1,6 @@
 -- The whole tree without a key: in the table, as in the tree.
 use Rattle.std.proofs.Common.{◌≡◌, ℕ, suc, ◌+◌, ◌-◌, ◌<◌, ◌≤◌, true, eqb, List, ◌∷◌, length, sym, refl, ap, ◌∙◌, subst, arith, length-append, pow_pos, eq-eqb, ne_eqb}
-use Rattle.std.specs.List.{AllByRecursion as All}
+use Rattle.std.specs.List.{AllByRecursion}
 use Rattle.std.proofs.lemmas.Bool.{cond-true, cond-false}
 use Rattle.kinds.specs.Meaning.{Meaning, First, Second}
 use Rattle.plain.specs.declared.point.Key.{Key}
@@ -104,8 +104,8 @@ module _ {C W R : Type 0} (m : Meaning C W R) (a : List (Node C R)) (hd : Header
     pub root-within : p < length b
     root-within = omega (arith, sound-within m a tall p root-sound)
 
-    pub root-apart : All (λ q. q ≡ p → ⊥) (spares b f)
-    root-apart = subst (All (λ q. q ≡ p → ⊥)) (sym free-same) (none-occurring p qs (omega (arith, places p, uses-children t p, ap (λ x. hit x p) (place_at m a tall p), hit-here p, inside_one (length a) p)))
+    pub root-apart : AllByRecursion (λ q. q ≡ p → ⊥) (spares b f)
+    root-apart = subst (AllByRecursion (λ q. q ≡ p → ⊥)) (sym free-same) (none-occurring p qs (omega (arith, places p, uses-children t p, ap (λ x. hit x p) (place_at m a tall p), hit-here p, inside_one (length a) p)))
 
     pub root-room : length (spares b f) < 65535
     root-room = omega (arith, ap length free-same, free, st.small)

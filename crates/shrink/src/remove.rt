@@ -1,7 +1,7 @@
 // A leaf is taken away, and on the way up each node that has too few children is joined with a
 // neighbour.
 ghost use Rattle.std.specs.Prelude.{◌≡◌, ◌+◌, ◌-◌, ◌<◌, ◌++◌, length, take, drop, if◌then◌else◌};
-ghost use Rattle.std.specs.List.{AllByRecursion as All};
+ghost use Rattle.std.specs.List.{AllByRecursion};
 ghost use Rattle.table.specs.Kids.{kids_of};
 ghost use Rattle.shrink.specs.Removes.{over, Renewed, Mendable, Mended, Ready, Removed};
 
@@ -34,7 +34,7 @@ fn renew<K: Kind>(
 )
     requires here { at < length nodes.old }
     requires some { 0 < length (kids_of children) }
-    requires within { All (λ q. q < length nodes.old) (kids_of children) }
+    requires within { AllByRecursion (λ q. q < length nodes.old) (kids_of children) }
     ensures { Renewed K.Kind.meaning nodes.old nodes.new at n (kids_of children) }
 {
     let first = read(nodes, children.at(0));

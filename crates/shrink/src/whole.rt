@@ -1,7 +1,7 @@
 // A key is removed from the whole tree.
 ghost use Rattle.std.specs.Prelude.{◌≡◌, ◌-◌, ◌<◌, true};
 ghost use Rattle.plain.specs.Set.{stands};
-ghost use Rattle.plain.specs.Set.{remove as removedFrom};
+ghost use Rattle.plain.specs.Set.{remove as removed_from};
 ghost use Rattle.tree.specs.Standing.{points_of, Standing, Ruled};
 ghost use Rattle.shrink.specs.Lowers.{header_of, Lowerable, Lowered};
 
@@ -67,7 +67,7 @@ pub fn remove<K: Kind>(
     requires standing { Standing K.Kind.meaning nodes.old header.old }
     requires some { 0 < header.old.count }
     ensures standing { Standing K.Kind.meaning nodes.new header.new }
-    ensures ruled { Ruled K.Kind.meaning nodes.old header.old → stands K.Kind.meaning key (points_of K.Kind.meaning nodes.old header.old) ≡ true → Ruled K.Kind.meaning nodes.new header.new × (points_of K.Kind.meaning nodes.new header.new ≡ removedFrom K.Kind.meaning key (points_of K.Kind.meaning nodes.old header.old)) }
+    ensures ruled { Ruled K.Kind.meaning nodes.old header.old → stands K.Kind.meaning key (points_of K.Kind.meaning nodes.old header.old) ≡ true → Ruled K.Kind.meaning nodes.new header.new × (points_of K.Kind.meaning nodes.new header.new ≡ removed_from K.Kind.meaning key (points_of K.Kind.meaning nodes.old header.old)) }
 {
     let old = *header;
     let mut free = old.free;

@@ -1,6 +1,6 @@
 -- Free places: how one is taken, and how one is given back.
 use Rattle.std.proofs.Common.{◌≡◌, ℕ, zero, suc, ◌+◌, ◌-◌, ◌<◌, ◌≤◌, List, [], ◌∷◌, ◌++◌, length, Some, sym, refl, ap, ◌∙◌, arith, length-append}
-use Rattle.std.specs.List.{slice_get, AllByRecursion as All}
+use Rattle.std.specs.List.{slice_get, AllByRecursion}
 use Rattle.table.specs.declared.node.Node.{Node}
 use Rattle.table.specs.declared.free.Free.{Free}
 use Rattle.table.specs.Spares.{link_of, chain, row, spares}
@@ -35,25 +35,25 @@ module _ {C R : Type 0} (ns : List (Node C R)) where
       go zero e h = rows (length ns) f.fresh (omega (arith, length-row (length ns - f.fresh) f.fresh))
       go (suc k) e h = absurd (omega arith)
 
-  pub head-within : (f : Free) (P : ℕ → Type 0) → 0 < f.chained → All P (spares ns f) → P f.head
+  pub head-within : (f : Free) (P : ℕ → Type 0) → 0 < f.chained → AllByRecursion P (spares ns f) → P f.head
   head-within f P some all = go f.chained some all
     where
-      go : (k : ℕ) → 0 < k → All P (chain ns k f.head ++ row (length ns - f.fresh) f.fresh) → P f.head
+      go : (k : ℕ) → 0 < k → AllByRecursion P (chain ns k f.head ++ row (length ns - f.fresh) f.fresh) → P f.head
       go zero h a = absurd (omega arith)
       go (suc k) h a = a.0
 
 -- ---- tables that agree at the free places have the same
 module _ {C R : Type 0} (a b : List (Node C R)) where
-  pub chain_same : (k p : ℕ) → All (λ q. slice_get b q ≡ slice_get a q) (chain a k p) → chain b k p ≡ chain a k p
+  pub chain_same : (k p : ℕ) → AllByRecursion (λ q. slice_get b q ≡ slice_get a q) (chain a k p) → chain b k p ≡ chain a k p
   chain_same zero p s = refl
   chain_same (suc k) p s =
       ap (λ (q : ℕ). p ∷ chain b k q) (ap link_of s.0) ∙ ap (λ l. p ∷ l) (chain_same k (link_of (slice_get a p)) s.1)
 
-  left : {X : Type 0} (P : X → Type 0) (xs ys : List X) → All P (xs ++ ys) → All P xs
+  left : {X : Type 0} (P : X → Type 0) (xs ys : List X) → AllByRecursion P (xs ++ ys) → AllByRecursion P xs
   left P [] ys h = tt
   left P (x ∷ xs) ys h = (h.0, left P xs ys h.1)
 
-  pub spares-same : (f : Free) → length b ≡ length a → All (λ q. slice_get b q ≡ slice_get a q) (spares a f) → spares b f ≡ spares a f
+  pub spares-same : (f : Free) → length b ≡ length a → AllByRecursion (λ q. slice_get b q ≡ slice_get a q) (spares a f) → spares b f ≡ spares a f
   spares-same f len s =
       ap (λ l. l ++ row (length b - f.fresh) f.fresh) (chain_same f.chained f.head (left (λ q. slice_get b q ≡ slice_get a q) (chain a f.chained f.head) _ s))
       ∙ ap (λ n. chain a f.chained f.head ++ row (n - f.fresh) f.fresh) len
@@ -66,7 +66,7 @@ module _ {C R : Type 0} (a b : List (Node C R)) where
       length-chain (suc k) p = ap suc (length-chain k (link_of (slice_get a p)))
 
   -- a place given back heads the chain
-  pub give-chained : (f : Free) (p : ℕ) (n : Node C R) → length b ≡ length a → slice_get b p ≡ Some n → n.children.first ≡ f.head → All (λ q. slice_get b q ≡ slice_get a q) (spares a f)
+  pub give-chained : (f : Free) (p : ℕ) (n : Node C R) → length b ≡ length a → slice_get b p ≡ Some n → n.children.first ≡ f.head → AllByRecursion (λ q. slice_get b q ≡ slice_get a q) (spares a f)
       → spares b (record { head = p; chained = f.chained + 1; fresh = f.fresh }) ≡ p ∷ spares a f
   give-chained f p n len is link s =
       let one : f.chained + 1 ≡ suc f.chained = omega arith in

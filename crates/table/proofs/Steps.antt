@@ -1,6 +1,6 @@
 -- From the table to the tree: what is known of a sound tree, and a node written again after the tree of one child has changed.
 use Rattle.std.proofs.Common.{◌≡◌, ℕ, zero, suc, ◌+◌, ◌<◌, ◌≤◌, Bool, true, false, cond, ltb, List, [], ◌∷◌, length, get_or, set, Some, None, Option, refl, ap, ◌∙◌, subst, arith, ltb-true}
-use Rattle.std.specs.List.{slice_get, AllByRecursion as All}
+use Rattle.std.specs.List.{slice_get, AllByRecursion}
 use Rattle.std.proofs.ByRecursion.{All-from_get_or}
 use Rattle.kinds.specs.Meaning.{Meaning}
 use Rattle.trees.specs.Tree.{Tree, Forest, gone, leaf, fork, none, more, grow, hit, uses, uses_all, count, nth_tree, place_of, alter}
@@ -95,7 +95,7 @@ module _ {C W R : Type 0} (m : Meaning C W R) where
           subst (Sound (length ns) h) (nth-grow (tree_at m ns h) i (kids n) lt)
           (sound-nth (length ns) h i (below ns h n) kids-sound (omega (arith, count-grow (tree_at m ns h) (kids n))))
 
-      pub kids-within : All (λ q. q < length ns) (kids n)
+      pub kids-within : AllByRecursion (λ q. q < length ns) (kids n)
       kids-within = All-from_get_or (λ q. q < length ns) (kids n) 0 (λ i lt. sound-within ns h (get_or (kids n) i 0) (kid-sound i lt))
 
   -- ---- one child has changed

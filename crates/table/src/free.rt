@@ -1,7 +1,7 @@
 // The places of a table that hold no node of the tree: some are chained, each with the place of
 // the next, and those from `fresh` on were never used.
 ghost use Rattle.std.specs.Prelude.{◌≡◌, ℕ, ◌<◌, ◌≤◌, ◌∷◌, length, ◌≢◌};
-ghost use Rattle.std.specs.List.{slice_get, AllByRecursion as All};
+ghost use Rattle.std.specs.List.{slice_get, AllByRecursion};
 ghost use Rattle.table.specs.Spares.{spares};
 
 use crate::children::Children;
@@ -24,7 +24,7 @@ impl Free {
     // Takes the next free place.
     pub fn take<C: Copy, R: Copy>(&mut self, nodes: &[Node<C, R>]) -> u16
         requires some { 0 < length (spares nodes.now self.old) }
-        requires within { All (λ q. q < length nodes.now) (spares nodes.now self.old) }
+        requires within { AllByRecursion (λ q. q < length nodes.now) (spares nodes.now self.old) }
         requires small { length nodes.now ≤ 32767 }
         ensures { spares nodes.now self.old ≡ result ∷ spares nodes.now self.new }
     {
@@ -42,7 +42,7 @@ impl Free {
     // Gives a place back: it is the next to be taken.
     pub fn give<C: Copy, R: Copy>(&mut self, nodes: &mut [Node<C, R>], p: u16)
         requires within { p < length nodes.old }
-        requires apart { All (λ q. q ≢ p) (spares nodes.old self.old) }
+        requires apart { AllByRecursion (λ q. q ≢ p) (spares nodes.old self.old) }
         requires room { length (spares nodes.old self.old) < 65535 }
         ensures spares { spares nodes.new self.new ≡ p ∷ spares nodes.old self.old }
         ensures frame { (q : ℕ) → (q ≢ p) → slice_get nodes.new q ≡ slice_get nodes.old q }

@@ -1,7 +1,7 @@
 -- Nodes laid over trees, and points that find their place in them: in the table, as in the tree.
 use Rattle.std.proofs.Common.{◌≡◌, ℕ, suc, ◌+◌, ◌<◌, ◌≤◌, Bool, true, false, cond, eqb, ◌⊎◌, List, [], ◌∷◌, length, get_or, set, Some, None, unwrap_or, sym, refl, ap, ◌∙◌, subst, inl, inr, arith, eqb-true}
 use borrow.Author.Tests.{lt-true}
-use Rattle.std.specs.List.{slice_get, AllByRecursion as All}
+use Rattle.std.specs.List.{slice_get, AllByRecursion}
 use Rattle.std.proofs.ByRecursion.{All-from_get_or}
 use Rattle.kinds.specs.Meaning.{Meaning}
 use Rattle.plain.specs.declared.point.Key.{Key}
@@ -26,7 +26,7 @@ module _ {C W R : Type 0} (m : Meaning C W R) where
     pub tree-sound : (i : ℕ) → i < length ps → Sound (length a) h (tree_at m a h (get_or ps i 0))
     tree-sound i lt = subst (Sound (length a) h) (nth-grow (tree_at m a h) i ps lt) (sound-nth (length a) h i (grow (tree_at m a h) ps) s (omega (arith, count-grow (tree_at m a h) ps)))
 
-    pub trees-within : All (λ q. q < length a) ps
+    pub trees-within : AllByRecursion (λ q. q < length a) ps
     trees-within = All-from_get_or (λ q. q < length a) ps 0 (λ i lt. sound-within m a h (get_or ps i 0) (tree-sound i lt))
 
     pub tree-uses : (i : ℕ) → i < length ps → (q : ℕ) → uses (tree_at m a h (get_or ps i 0)) q ≤ uses_all (grow (tree_at m a h) ps) q

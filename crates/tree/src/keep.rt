@@ -5,7 +5,7 @@ ghost use Rattle.plain.specs.Points.{rank_order};
 ghost use Rattle.trees.specs.Kept.{has_key};
 ghost use Rattle.trees.specs.Kept.{pull as pulled};
 ghost use Rattle.trees.specs.Kept.{push as pushed};
-ghost use Rattle.trees.specs.Kept.{take_out as takenOut};
+ghost use Rattle.trees.specs.Kept.{take_out as taken_out};
 ghost use Rattle.trees.specs.Kept.{weigh as weighed};
 ghost use Rattle.table.specs.Reading.{point_in, kept_in, tree_at, Sound, Became};
 ghost use Rattle.tree.specs.Nodes.{keeping, weighing};
@@ -135,7 +135,7 @@ pub fn take_out<K: Kind>(
     key: Key<K::Coordinate>,
 )
     requires { Sound (length nodes.old) height (tree_at K.Kind.meaning nodes.old height at) }
-    ensures { Became K.Kind.meaning nodes.old nodes.new height at (takenOut K.Kind.meaning height key (tree_at K.Kind.meaning nodes.old height at)) }
+    ensures { Became K.Kind.meaning nodes.old nodes.new height at (taken_out K.Kind.meaning height key (tree_at K.Kind.meaning nodes.old height at)) }
 {
     let n = read(nodes, at);
     if height == 0 {

@@ -1,6 +1,6 @@
 // The way down the tree: which child to go to.
 ghost use Rattle.std.specs.Prelude.{◌≡◌, ◌<◌, length};
-ghost use Rattle.std.specs.List.{slice_get, AllByRecursion as All};
+ghost use Rattle.std.specs.List.{slice_get, AllByRecursion};
 ghost use Rattle.std.specs.Ordering.{is_lt};
 ghost use Rattle.plain.specs.Points.{rank_order};
 ghost use Rattle.trees.specs.Kept.{leads, is_before};
@@ -81,7 +81,7 @@ pub fn pick_child<K: Kind>(
     children: Children,
     key: Key<K::Coordinate>,
 ) -> u8
-    requires within { All (λ q. q < length nodes.now) (kids_of children) }
+    requires within { AllByRecursion (λ q. q < length nodes.now) (kids_of children) }
     requires some { 0 < length (kids_of children) }
     ensures is { result ≡ pick_at K.Kind.meaning nodes.now key (kids_of children) }
     ensures below { result < length (kids_of children) }
@@ -97,7 +97,7 @@ pub fn pick_child<K: Kind>(
 
 // The number of the child that keeps the first point in rank order.
 pub fn best_child<K: Kind>(nodes: &[Node<K::Coordinate, K::Recorded>], children: Children) -> u8
-    requires within { All (λ q. q < length nodes.now) (kids_of children) }
+    requires within { AllByRecursion (λ q. q < length nodes.now) (kids_of children) }
     requires some { 0 < length (kids_of children) }
     ensures is { result ≡ best_at K.Kind.meaning nodes.now (kids_of children) }
     ensures below { result < length (kids_of children) }

@@ -1,6 +1,6 @@
 // Nodes laid anew over trees that stand, and points that find their place in them.
 ghost use Rattle.std.specs.Prelude.{◌≡◌, ◌-◌, ◌<◌, false, length, Some};
-ghost use Rattle.std.specs.List.{slice_get, AllByRecursion as All};
+ghost use Rattle.std.specs.List.{slice_get, AllByRecursion};
 ghost use Rattle.trees.specs.Tree.{grow, uses_all};
 ghost use Rattle.table.specs.Kids.{kids_of};
 ghost use Rattle.table.specs.Reading.{point_in, kept_in, tree_at, Sounds};

@@ -2,7 +2,7 @@
 use Rattle.std.proofs.Common.{◌≡◌, ℕ, zero, suc, ◌+◌, Bool, true, false, cond, List, [], ◌∷◌, ◌++◌, map, is_some, Some, None, Option, sym, refl, ap, ◌∙◌, subst, arith}
 use mathlib.Core.List.{map-append}
 use Rattle.std.specs.Ordering.{is_lt}
-use Rattle.std.specs.List.{AllByRecursion as All}
+use Rattle.std.specs.List.{AllByRecursion}
 use Rattle.kinds.specs.Meaning.{Meaning}
 use Rattle.plain.specs.declared.point.Key.{Key}
 use Rattle.plain.specs.declared.point.Point.{Point}
@@ -131,13 +131,13 @@ first_alike k xs ys e f = heads-out k xs (subst (Heads k) (sym e) (heads-in k ys
 module _ {C W R : Type 0} (m : Meaning C W R) where
   abbrev Climbs : List (Key C) → Type 0
   Climbs [] = Unit {0}
-  Climbs (k ∷ ks) = All (Before m k) ks × Climbs ks
+  Climbs (k ∷ ks) = AllByRecursion (Before m k) ks × Climbs ks
 
-  all_in : (k : Key C) (xs : List (Point C W)) → All (λ x. Before m k x.key) xs → All (Before m k) (keys_of xs)
+  all_in : (k : Key C) (xs : List (Point C W)) → AllByRecursion (λ x. Before m k x.key) xs → AllByRecursion (Before m k) (keys_of xs)
   all_in k [] a = tt
   all_in k (x ∷ xs) (b, a) = (b, all_in k xs a)
 
-  all-out : (k : Key C) (xs : List (Point C W)) → All (Before m k) (keys_of xs) → All (λ x. Before m k x.key) xs
+  all-out : (k : Key C) (xs : List (Point C W)) → AllByRecursion (Before m k) (keys_of xs) → AllByRecursion (λ x. Before m k x.key) xs
   all-out k [] a = tt
   all-out k (x ∷ xs) (b, a) = (b, all-out k xs a)
 

@@ -1,7 +1,7 @@
 -- One step of a walk: the entry on top is taken, and the nodes that it leads to join.
 use Rattle.std.proofs.Common.{◌≡◌, ℕ, zero, suc, ◌+◌, ◌*◌, ◌≤◌, Bool, true, false, cond, ◌&&◌, List, [], ◌∷◌, ◌++◌, length, Some, Option, sym, refl, ap, ◌∙◌, subst, arith, length-append}
 use mathlib.Core.List.{map-append}
-use Rattle.std.specs.List.{slice_get, flat_map, AllByRecursion as All}
+use Rattle.std.specs.List.{slice_get, flat_map, AllByRecursion}
 use Rattle.std.proofs.ByRecursion.{All-append, All-from_get_or}
 use Rattle.kinds.specs.Meaning.{Meaning}
 use Rattle.plain.specs.declared.point.Point.{Point}
@@ -29,16 +29,16 @@ open-few {C = C} m ns h l u (p ∷ ps) = omega (arith, open-few m ns h l u ps, l
     one false = omega arith
 
 -- what holds of an entry for each child holds of those that join
-pub open-all : {C W R : Type 0} (m : Meaning C W R) (ns : List (Node C R)) (h : ℕ) (l u : C) (P : Entry → Type 0) (ps : List ℕ) → All (λ p. P (entry p h)) ps → All P (open_entries m ns h l u ps)
+pub open-all : {C W R : Type 0} (m : Meaning C W R) (ns : List (Node C R)) (h : ℕ) (l u : C) (P : Entry → Type 0) (ps : List ℕ) → AllByRecursion (λ p. P (entry p h)) ps → AllByRecursion P (open_entries m ns h l u ps)
 open-all m ns h l u P [] a = tt
 open-all m ns h l u P (p ∷ ps) a = All-append P (cond (starts_by m u (key_at ns p) && reaches_at m ns l ps) (entry p h ∷ []) []) (open_entries m ns h l u ps) (one (starts_by m u (key_at ns p) && reaches_at m ns l ps)) (open-all m ns h l u P ps a.1)
   where
-    one : (b : Bool) → All P (cond b (entry p h ∷ []) [])
+    one : (b : Bool) → AllByRecursion P (cond b (entry p h ∷ []) [])
     one true = (a.0, tt)
     one false = tt
 
 -- entries of one height on top of others, where there is room
-pub rooms-on : (h : ℕ) (xs es : List Entry) → All (λ e. e.height ≡ h) xs → length xs + length es + 3 * h ≤ 43 → Rooms es → Rooms (xs ++ es)
+pub rooms-on : (h : ℕ) (xs es : List Entry) → AllByRecursion (λ e. e.height ≡ h) xs → length xs + length es + 3 * h ≤ 43 → Rooms es → Rooms (xs ++ es)
 rooms-on h [] es a n r = r
 rooms-on h (x ∷ xs) es a n r = (omega (arith, a.0, length-append xs es), rooms-on h xs es a.1 (omega arith) r)
 
@@ -95,6 +95,6 @@ module _ {C W R : Type 0} (m : Meaning C W R) (leads : Option (Point C W) → Bo
   rooms-after ns e es n h up r =
       rooms-on h (open_entries m ns h l u (kids m n)) es (open-all m ns h l u (λ d. d.height ≡ h) (kids m n) (same (kids m n))) (omega (arith, open-few m ns h l u (kids m n), few n.children, r.0)) r.1
     where
-      same : (ps : List ℕ) → All (λ p. h ≡ h) ps
+      same : (ps : List ℕ) → AllByRecursion (λ p. h ≡ h) ps
       same [] = tt
       same (p ∷ ps) = (refl, same ps)

@@ -1,6 +1,6 @@
 -- Entries kept as a stack, and the children that join it.
 use Rattle.std.specs.Prelude.{ℕ, ◌+◌, ◌*◌, ◌≤◌, Bool, true, cond, ◌&&◌, List, [], ◌∷◌, ◌++◌, map, reverse, length, take, Option}
-use Rattle.std.specs.List.{flat_map, AllByRecursion as All}
+use Rattle.std.specs.List.{flat_map, AllByRecursion}
 use Rattle.kinds.specs.Meaning.{Meaning}
 use Rattle.plain.specs.declared.point.Point.{Point}
 use Rattle.trees.specs.Tree.{Tree}
@@ -45,7 +45,7 @@ Rooms (e ∷ es) = (length es + 3 * e.height ≤ 42) × Rooms es
 module _ {C W R : Type 0} (m : Meaning C W R) (ns : List (Node C R)) where
   -- each entry names a sound tree
   abbrev pub AllSound : List Entry → Type 0
-  AllSound es = All (λ e. Sound (length ns) e.height (tree_of m ns e)) es
+  AllSound es = AllByRecursion (λ e. Sound (length ns) e.height (tree_of m ns e)) es
 
   -- the nodes that are still to come in a walk with these entries left
   abbrev pub to_come : (Option (Point C W) → Bool) → C → C → List Entry → List (Tree C W)

@@ -1,6 +1,6 @@
 // Nodes that a walk has yet to go to, kept as a stack: the entry that joined last is taken first.
 ghost use Rattle.std.specs.Prelude.{◌≡◌, ◌+◌, ◌<◌, ◌≤◌, not, ◌∷◌, ◌++◌, length};
-ghost use Rattle.std.specs.List.{AllByRecursion as All};
+ghost use Rattle.std.specs.List.{AllByRecursion};
 ghost use Rattle.plain.specs.Windows.{later};
 ghost use Rattle.table.specs.Kids.{kids_of};
 ghost use Rattle.walk.specs.Entries.{pile, entry, open_entries};
@@ -51,7 +51,7 @@ pub fn put_open<K: Kind>(
     entries: &mut [Entry],
     depth: usize,
 ) -> usize
-    requires within { All (λ q. q < length nodes.now) (kids_of children) }
+    requires within { AllByRecursion (λ q. q < length nodes.now) (kids_of children) }
     requires room { depth + length (open_entries K.Kind.meaning nodes.now height l u (kids_of children)) ≤ length entries.old }
     ensures pile { pile entries.new result ≡ open_entries K.Kind.meaning nodes.now height l u (kids_of children) ++ pile entries.old depth }
     ensures depth { result ≡ depth + length (open_entries K.Kind.meaning nodes.now height l u (kids_of children)) }

@@ -1,6 +1,6 @@
 -- How many nodes a walk from the root visits and takes.
 use Rattle.std.proofs.Common.{◌≡◌, ℕ, zero, suc, ◌+◌, ◌*◌, ◌≤◌, false, not, T, leb, [], length, refl, ap, ◌∙◌, arith, length-take}
-use Rattle.std.specs.List.{AllByRecursion as All}
+use Rattle.std.specs.List.{AllByRecursion}
 use Rattle.std.proofs.ByRecursion.{All-weaker}
 use Rattle.std.proofs.lemmas.List.Sorted.{length_permutation}
 use Rattle.std.proofs.lemmas.Bool.{leb-true, leb-false, not_from_false}
@@ -23,7 +23,7 @@ use Rattle.walked.proofs.Frontiers.{until-all, until-zero, taken-tree, first-tre
 
 module _ {C W R : Type 0} (m : Meaning C W R) (first : First m) (l u : C) where
   -- from a root that is later than u no child is open
-  none_open : (ts : Forest C W) → MarkedAll ts → All (λ p. Past m p.key.at u) (points_all ts) → walk_all m always l u ts ≡ []
+  none_open : (ts : Forest C W) → MarkedAll ts → AllByRecursion (λ p. Past m p.key.at u) (points_all ts) → walk_all m always l u ts ≡ []
   none_open none k f = refl
   none_open (more d ts) (k, ks) f =
       let (x, y) = all-parts (λ p. Past m p.key.at u) (points d) (points_all ts) f in

@@ -1,6 +1,6 @@
 -- What a list costs in which an element fails a test.
 use Rattle.std.proofs.Common.{◌≡◌, ℕ, ◌+◌, ◌≤◌, Bool, true, false, cond, ◌⊎◌, List, [], ◌∷◌, ◌++◌, sym, refl, ◌∙◌, inl, inr, arith}
-use Rattle.std.specs.List.{ContainsAt as Has, AllByRecursion as All}
+use Rattle.std.specs.List.{ContainsAt, AllByRecursion}
 use Rattle.std.proofs.lemmas.Bool.{true≢false}
 use Rattle.std.proofs.ByRecursion.{all-has}
 
@@ -18,24 +18,24 @@ module _ {X : Type 0} (p : X → Bool) where
       go true e = e
       go false e = omega arith
 
-  pub cost-all : (x : ℕ) (ys : List X) → All (λ y. p y ≡ true) ys → cost p x ys ≡ 0
+  pub cost-all : (x : ℕ) (ys : List X) → AllByRecursion (λ y. p y ≡ true) ys → cost p x ys ≡ 0
   cost-all x [] a = refl
   cost-all x (y ∷ ys) (h, a) = rw h (cost-all x ys a)
 
   -- nothing fails, or it costs x
-  pub cost-ways : (ys : List X) → All (λ y. p y ≡ true) ys ⊎ ((x : ℕ) → cost p x ys ≡ x)
+  pub cost-ways : (ys : List X) → AllByRecursion (λ y. p y ≡ true) ys ⊎ ((x : ℕ) → cost p x ys ≡ x)
   cost-ways [] = inl tt
   cost-ways (y ∷ ys) = go (p y) refl (cost-ways ys)
     where
-      go : (b : Bool) → p y ≡ b → All (λ y. p y ≡ true) ys ⊎ ((x : ℕ) → cost p x ys ≡ x) → All (λ y. p y ≡ true) (y ∷ ys) ⊎ ((x : ℕ) → cost p x (y ∷ ys) ≡ x)
+      go : (b : Bool) → p y ≡ b → AllByRecursion (λ y. p y ≡ true) ys ⊎ ((x : ℕ) → cost p x ys ≡ x) → AllByRecursion (λ y. p y ≡ true) (y ∷ ys) ⊎ ((x : ℕ) → cost p x (y ∷ ys) ≡ x)
       go true e (inl a) = inl (e, a)
       go true e (inr f) = inr (λ x. rw e (f x))
       go false e w = inr (λ x. rw e)
 
-  pub cost-fails : (x : ℕ) (y : X) (ys : List X) → p y ≡ false → Has ys y → cost p x ys ≡ x
+  pub cost-fails : (x : ℕ) (y : X) (ys : List X) → p y ≡ false → ContainsAt ys y → cost p x ys ≡ x
   cost-fails x y ys f h = go (cost-ways ys)
     where
-      go : All (λ z. p z ≡ true) ys ⊎ ((x : ℕ) → cost p x ys ≡ x) → cost p x ys ≡ x
+      go : AllByRecursion (λ z. p z ≡ true) ys ⊎ ((x : ℕ) → cost p x ys ≡ x) → cost p x ys ≡ x
       go (inl a) = absurd (true≢false (sym (all-has (λ z. p z ≡ true) ys y a h) ∙ f))
       go (inr g) = g x
 

@@ -1,6 +1,6 @@
 -- What a tree pays for points on either side of the window.
 use Rattle.std.proofs.Common.{◌≡◌, ℕ, ◌+◌, ◌≤◌, true, false, not, ◌⊎◌, List, ◌++◌, ap, ◌∙◌, inl, inr, ⊎_elim, arith}
-use Rattle.std.specs.List.{ContainsAt as Has, AllByRecursion as All}
+use Rattle.std.specs.List.{ContainsAt, AllByRecursion}
 use Rattle.std.proofs.ByRecursion.{All-weaker}
 use Rattle.std.proofs.lemmas.Bool.{and_cases}
 use Rattle.kinds.specs.Meaning.{Meaning, First}
@@ -26,7 +26,7 @@ module _ {C W R : Type 0} (m : Meaning C W R) where
     pub early-most : (x : ℕ) (ps : List (Point C W)) → early l x ps ≤ x
     early-most x ps = cost-most (λ p. not (later m l p.key.at)) x ps
 
-    pub early-ways : (ps : List (Point C W)) → All (λ p. Upto m l p.key.at) ps ⊎ ((x : ℕ) → early l x ps ≡ x)
+    pub early-ways : (ps : List (Point C W)) → AllByRecursion (λ p. Upto m l p.key.at) ps ⊎ ((x : ℕ) → early l x ps ≡ x)
     early-ways ps = cost-ways (λ p. not (later m l p.key.at)) ps
 
     pub early-add : (x y z : ℕ) → z ≡ x + y → (ps : List (Point C W)) → early l z ps ≡ early l x ps + early l y ps
@@ -42,7 +42,7 @@ module _ {C W R : Type 0} (m : Meaning C W R) where
     pub late-most : (x : ℕ) (ps : List (Point C W)) → late u x ps ≤ x
     late-most x ps = cost-most (λ p. not (later m p.key.at u)) x ps
 
-    pub late-ways : (ps : List (Point C W)) → All (λ p. Upto m p.key.at u) ps ⊎ ((x : ℕ) → late u x ps ≡ x)
+    pub late-ways : (ps : List (Point C W)) → AllByRecursion (λ p. Upto m p.key.at u) ps ⊎ ((x : ℕ) → late u x ps ≡ x)
     late-ways ps = cost-ways (λ p. not (later m p.key.at u)) ps
 
     pub late-add : (x y z : ℕ) → z ≡ x + y → (ps : List (Point C W)) → late u z ps ≡ late u x ps + late u y ps
@@ -55,7 +55,7 @@ module _ {C W R : Type 0} (m : Meaning C W R) where
     late-right x ps qs = cost-right (λ p. not (later m p.key.at u)) x ps qs
 
   -- a point outside the window is paid for
-  pub outside : (l u : C) (q : Point C W) (ps : List (Point C W)) → Has ps q → inside m l u q.key.at ≡ false → (x : ℕ) → x ≤ early l x ps + late u x ps
+  pub outside : (l u : C) (q : Point C W) (ps : List (Point C W)) → ContainsAt ps q → inside m l u q.key.at ≡ false → (x : ℕ) → x ≤ early l x ps + late u x ps
   outside l u q ps i w x =
       ⊎_elim
       (λ (e : Past m l q.key.at). omega (arith, cost-fails (λ p. not (later m l p.key.at)) x q ps e i))
@@ -73,6 +73,6 @@ module _ {C W R : Type 0} (m : Meaning C W R) where
       record {
         behind = λ x. cost-all (λ p. not (later m l p.key.at)) x (points_all ts) (behind-open m first l u t ts o k b);
         ahead =
-            ⊎_elim (λ f. inl (λ x. cost-all (λ p. not (later m p.key.at u)) x (points t) (All-weaker (λ p. All (λ q. Upto m p.key.at q.key.at) (points_all ts)) (λ p. Upto m p.key.at u) (λ p h. f p.key.at h) (points t) c)))
+            ⊎_elim (λ f. inl (λ x. cost-all (λ p. not (later m p.key.at u)) x (points t) (All-weaker (λ p. AllByRecursion (λ q. Upto m p.key.at q.key.at) (points_all ts)) (λ p. Upto m p.key.at u) (λ p h. f p.key.at h) (points t) c)))
             (λ s. inr s) (before-open m first l u ts k);
       }

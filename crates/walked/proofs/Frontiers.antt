@@ -1,7 +1,7 @@
 -- How many nodes a frontier walk takes in a tree, by what lies on either side of the window.
 use Rattle.std.proofs.Common.{◌≡◌, ℕ, zero, suc, ◌+◌, ◌-◌, ◌*◌, ◌<◌, ◌≤◌, true, not, leb, List, [], ◌∷◌, ◌++◌, length, sym, refl, ap, ◌∙◌, ⊎_elim, append-nil, arith, length-append}
 use native.Mathlib.Nat.{sub-zero}
-use Rattle.std.specs.List.{flat_map, AllByRecursion as All}
+use Rattle.std.specs.List.{flat_map, AllByRecursion}
 use Rattle.std.proofs.lemmas.Bool.{leb-true, leb-false}
 use Rattle.kinds.specs.Meaning.{Meaning, First}
 use Rattle.plain.specs.declared.point.Key.{Key}
@@ -61,11 +61,11 @@ module _ {C W R : Type 0} (m : Meaning C W R) (first : First m) (l u : C) (forwa
       (λ i. rw (starts t h e, ap (starts_from m l) (mark-is d k) ∙ i) (some-open ts d k ks (upto-trans m first (mark d k).at l u (upto-total m first l (mark d k).at i) forward)))
 
   -- if all points are in the window, all children are open
-  all-reach : (ts : Forest C W) → MarkedAll ts → All (λ p. Upto m l p.key.at) (points_all ts) → reaches_right m l ts ≡ true
+  all-reach : (ts : Forest C W) → MarkedAll ts → AllByRecursion (λ p. Upto m l p.key.at) (points_all ts) → reaches_right m l ts ≡ true
   all-reach none k a = refl
   all-reach (more d ts) (k, ks) a = ap (starts_from m l) (mark-is d k) ∙ mark-at (λ (j : Key C). Upto m l j.at) d k (all-parts (λ p. Upto m l p.key.at) (points d) (points_all ts) a).0
 
-  all-open : (ts : Forest C W) → MarkedAll ts → All (λ p. Upto m l p.key.at) (points_all ts) → All (λ p. Upto m p.key.at u) (points_all ts) → length (open_of m l u ts) ≡ count ts
+  all-open : (ts : Forest C W) → MarkedAll ts → AllByRecursion (λ p. Upto m l p.key.at) (points_all ts) → AllByRecursion (λ p. Upto m p.key.at u) (points_all ts) → length (open_of m l u ts) ≡ count ts
   all-open none k a b = refl
   all-open (more t ts) (k, ks) a b =
       let (a1, a2) = all-parts (λ p. Upto m l p.key.at) (points t) (points_all ts) a in
@@ -80,12 +80,12 @@ module _ {C W R : Type 0} (m : Meaning C W R) (first : First m) (l u : C) (forwa
       let here : Upto m (mark t k).at x.at = first-at (λ (j : Key C). Upto m (mark t k).at j.at) x ps f (mark-before m first t k (points_all ts) r) in
       let one = some-open ts t k ks (upto-trans m first (mark t k).at x.at u here h) in
       ⊎_elim
-      (λ (a : All (λ p. Upto m l p.key.at) ps). ⊎_elim
-      (λ (b : All (λ p. Upto m p.key.at u) ps). omega (arith, all-open (more t ts) (k, ks) a b))
+      (λ (a : AllByRecursion (λ p. Upto m l p.key.at) ps). ⊎_elim
+      (λ (b : AllByRecursion (λ p. Upto m p.key.at u) ps). omega (arith, all-open (more t ts) (k, ks) a b))
       (λ (g : (z : ℕ) → late m u z ps ≡ z). omega (arith, one, g 1))
       (late-ways m u ps))
       (λ (f : (z : ℕ) → early m l z ps ≡ z). ⊎_elim
-      (λ (b : All (λ p. Upto m p.key.at u) ps). omega (arith, one, f 1))
+      (λ (b : AllByRecursion (λ p. Upto m p.key.at u) ps). omega (arith, one, f 1))
       (λ (g : (z : ℕ) → late m u z ps ≡ z). omega (arith, f 1, g 1))
       (late-ways m u ps))
       (early-ways m l ps)

@@ -1,6 +1,6 @@
 -- The key that a node records is that of the first of its points.
 use Rattle.std.proofs.Common.{◌≡◌, ℕ, zero, suc, List, [], ◌∷◌, ◌++◌, Some, sym, refl, subst}
-use Rattle.std.specs.List.{AllByRecursion as All}
+use Rattle.std.specs.List.{AllByRecursion}
 use Rattle.kinds.specs.Meaning.{Meaning, First}
 use Rattle.plain.specs.declared.point.Key.{Key}
 use Rattle.plain.specs.declared.point.Point.{Point}
@@ -49,22 +49,22 @@ module _ {C W : Type 0} where
   mark-first (fork p k o ts) h = h.0
 
   -- what holds of the keys of all points holds of the first
-  pub first-at : (P : Key C → Type 0) (k : Key C) (ps : List (Point C W)) → FirstKey k ps → All (λ q. P q.key) ps → P k
+  pub first-at : (P : Key C → Type 0) (k : Key C) (ps : List (Point C W)) → FirstKey k ps → AllByRecursion (λ q. P q.key) ps → P k
   first-at P k [] f a = absurd f
   first-at P k (p ∷ ps) f (h, a) = subst P (sym f) h
 
-  pub mark-at : (P : Key C → Type 0) (t : Tree C W) (h : Marked t) → All (λ q. P q.key) (points t) → P (mark t h)
+  pub mark-at : (P : Key C → Type 0) (t : Tree C W) (h : Marked t) → AllByRecursion (λ q. P q.key) (points t) → P (mark t h)
   mark-at P t h a = first-at P (mark t h) (points t) (mark-first t h) a
 
 module _ {C W R : Type 0} (m : Meaning C W R) (first : First m) where
   -- the first key comes before all points
-  pub ahead : (k : Key C) (ps : List (Point C W)) → FirstKey k ps → Unfalling m ps → All (λ p. Upto m k.at p.key.at) ps
+  pub ahead : (k : Key C) (ps : List (Point C W)) → FirstKey k ps → Unfalling m ps → AllByRecursion (λ p. Upto m k.at p.key.at) ps
   ahead k [] f r = tt
-  ahead k (p ∷ ps) f (a, r) = subst (λ (j : Key C). All (λ q. Upto m j.at q.key.at) (p ∷ ps)) (sym f) (upto-self m first p.key.at, a)
+  ahead k (p ∷ ps) f (a, r) = subst (λ (j : Key C). AllByRecursion (λ q. Upto m j.at q.key.at) (p ∷ ps)) (sym f) (upto-self m first p.key.at, a)
 
-  pub mark-ahead : (t : Tree C W) (h : Marked t) → Unfalling m (points t) → All (λ p. Upto m (mark t h).at p.key.at) (points t)
+  pub mark-ahead : (t : Tree C W) (h : Marked t) → Unfalling m (points t) → AllByRecursion (λ p. Upto m (mark t h).at p.key.at) (points t)
   mark-ahead t h r = ahead (mark t h) (points t) (mark-first t h) r
 
   -- a key comes before all points from its tree on
-  pub mark-before : (t : Tree C W) (h : Marked t) (ps : List (Point C W)) → Unfalling m (points t ++ ps) → All (λ p. Upto m (mark t h).at p.key.at) (points t ++ ps)
+  pub mark-before : (t : Tree C W) (h : Marked t) (ps : List (Point C W)) → Unfalling m (points t ++ ps) → AllByRecursion (λ p. Upto m (mark t h).at p.key.at) (points t ++ ps)
   mark-before t h ps r = ahead (mark t h) (points t ++ ps) (first_more m (mark t h) (points t) ps (mark-first t h)) r

@@ -2,7 +2,7 @@
 use Rattle.std.proofs.Common.{◌≡◌, ℕ, Bool, true, false, cond, ◌&&◌, T, List, [], ◌∷◌, ◌++◌, Some, None, Less, sym, refl, ap, ◌∙◌, subst, inl, inr, append-nil}
 use Rattle.std.specs.List.Sorted.{IsPermutation}
 use Rattle.std.specs.Option.{option_to_list}
-use Rattle.std.specs.List.{ContainsAt as Has, flat_map, AllByRecursion as All}
+use Rattle.std.specs.List.{ContainsAt, flat_map, AllByRecursion}
 use Rattle.std.proofs.lemmas.List.Elements.{filter-append}
 use Rattle.std.proofs.ByRecursion.{All-weaker, all-has}
 use Rattle.std.proofs.lemmas.Bool.{true≢false, and_left, and_right}
@@ -34,7 +34,7 @@ module _ {C W R : Type 0} (m : Meaning C W R) (first : First m) (second : Second
   hit p = inside m l u p.key.at && reaches m p.weight w
 
   -- below a kept point that is weaker than the threshold nothing matches
-  weak-below : (q : Point C W) → FitPoint m q → reaches m q.weight w ≡ false → (ks : List (Point C W)) → All (λ x. rank_order m q x ≡ Less) ks → All (FitPoint m) ks → All (λ x. hit x ≡ false) ks
+  weak-below : (q : Point C W) → FitPoint m q → reaches m q.weight w ≡ false → (ks : List (Point C W)) → AllByRecursion (λ x. rank_order m q x ≡ Less) ks → AllByRecursion (FitPoint m) ks → AllByRecursion (λ x. hit x ≡ false) ks
   weak-below q f s [] a b = tt
   weak-below q f s (x ∷ xs) (r, a) (g, b) = (and_right _ _ (go (reaches m x.weight w) refl), weak-below q f s xs a b)
     where
@@ -45,19 +45,19 @@ module _ {C W R : Type 0} (m : Meaning C W R) (first : First m) (second : Second
       go false e = e
 
   mutual
-    range-tree : (t : Tree C W) → Unfalling m (points t) → Marked t → OnPath t → Placed m t → All (FitPoint m) (points t) → ranged m l u w t ≡ matches m l u w (kept t)
+    range-tree : (t : Tree C W) → Unfalling m (points t) → Marked t → OnPath t → Placed m t → AllByRecursion (FitPoint m) (points t) → ranged m l u w t ≡ matches m l u w (kept t)
     range-tree (gone p) r h on pl f = absurd h
     range-tree (leaf p x o) r h on pl f = ap (matches m l u w) (append-nil (option_to_list o))
     range-tree (fork p k None ts) r (e, h) on (e', pl) f = sym (ap (matches m l u w) e')
     range-tree (fork p k (Some q) ts) r (e, h) (own, on) ((i, a), pl) f =
         let ks = kept_all ts in
-        let below = All-weaker (Has (points_all ts)) (FitPoint m) (λ p i. all-has (FitPoint m) (points_all ts) p f i) ks (homed_all ts on) in
+        let below = All-weaker (ContainsAt (points_all ts)) (FitPoint m) (λ p i. all-has (FitPoint m) (points_all ts) p f i) ks (homed_all ts on) in
         ap (λ z. cond (hit q) (q ∷ z) z)
         (by-test (reaches m q.weight w)
         (λ s. rw s (range-forest ts r h on pl f))
         (λ s. rw s (sym (kept-none hit ks (weak-below q (all-has (FitPoint m) (points_all ts) q f i) s ks a below)))))
 
-    range-forest : (ts : Forest C W) → Unfalling m (points_all ts) → MarkedAll ts → OnPathAll ts → PlacedAll m ts → All (FitPoint m) (points_all ts) → matches m l u w (flat_map kept_at (walk_all m (leads_on m w) l u ts)) ≡ matches m l u w (kept_all ts)
+    range-forest : (ts : Forest C W) → Unfalling m (points_all ts) → MarkedAll ts → OnPathAll ts → PlacedAll m ts → AllByRecursion (FitPoint m) (points_all ts) → matches m l u w (flat_map kept_at (walk_all m (leads_on m w) l u ts)) ≡ matches m l u w (kept_all ts)
     range-forest none r h on pl f = refl
     range-forest (more t ts) r (h, hs) (on, ons) (pl, pls) f =
         let (a, b, c) = unfalling-parts m (points t) (points_all ts) r in
@@ -71,7 +71,7 @@ module _ {C W R : Type 0} (m : Meaning C W R) (first : First m) (second : Second
         (λ o. rw o (cc (joined-join kept_at v vs, filter-append hit (flat_map kept_at v) (flat_map kept_at vs), first_part, rest, both)))
         (λ o.
         let out = shut_out m first l u t ts o h hs r in
-        let empty = All-weaker (Has (points t)) (λ p. hit p ≡ false) (λ p i. and_left _ _ (all-has (λ p. inside m l u p.key.at ≡ false) (points t) p out i)) (kept t) (homed t on) in
+        let empty = All-weaker (ContainsAt (points t)) (λ p. hit p ≡ false) (λ p i. and_left _ _ (all-has (λ p. inside m l u p.key.at ≡ false) (points t) p out i)) (kept t) (homed t on) in
         rw o (rest ∙ ap (λ z. z ++ matches m l u w (kept_all ts)) (sym (kept-none hit (kept t) empty)) ∙ sym both))
 
   module _ (a b h : ℕ) (t : Tree C W) (rules : Rules m a b h t) where

@@ -1,6 +1,6 @@
 -- A walk by a stack: a step takes the next node, and how many entries the stack has.
 use Rattle.std.proofs.Common.{◌≡◌, ℕ, zero, suc, ◌+◌, ◌-◌, ◌*◌, ◌≤◌, Bool, List, [], ◌∷◌, ◌++◌, length, take, drop, Option, sym, refl, ap, ◌∙◌, append-nil, mul-suc, arith, length-append}
-use Rattle.std.specs.List.{flat_map, AllByRecursion as All}
+use Rattle.std.specs.List.{flat_map, AllByRecursion}
 use Rattle.kinds.specs.Meaning.{Meaning}
 use Rattle.plain.specs.declared.point.Point.{Point}
 use Rattle.trees.specs.Tree.{Tree, Forest, gone, leaf, fork, none, more, count, points, points_all}
@@ -66,7 +66,7 @@ module _ {C W R : Type 0} (m : Meaning C W R) (leads : Option (Point C W) → Bo
 
   -- ---- at most as many entries as points
   abbrev Sound : ℕ → List (Tree C W) → Type 0
-  Sound b vs = All (λ v. (g : ℕ) × Level v g × Degrees v 2 b) vs
+  Sound b vs = AllByRecursion (λ v. (g : ℕ) × Level v g × Degrees v 2 b) vs
 
   open-sound : (b g : ℕ) (ts : Forest C W) (vs : List (Tree C W)) → LevelAll ts g → DegreesAll ts 2 b → Sound b vs → Sound b (open_of m l u ts ++ vs)
   open-sound b g none vs lv de s = s

@@ -1,7 +1,7 @@
 -- Coordinates that are not later than others, and points whose coordinates do not fall.
 use Rattle.std.proofs.Common.{◌≡◌, Bool, true, false, not, T, ◌⊎◌, List, [], ◌∷◌, ◌++◌, Ordering, Less, Equal, Greater, sym, refl, ap, ◌∙◌, inl, inr}
 use Rattle.std.specs.Ordering.{is_le, is_lt, is_gt, ordering_then}
-use Rattle.std.specs.List.{AllByRecursion as All}
+use Rattle.std.specs.List.{AllByRecursion}
 use Rattle.std.proofs.ByRecursion.{All-weaker}
 use Rattle.std.proofs.lemmas.Bool.{true≢false}
 use Rattle.kinds.specs.Meaning.{Meaning, First}
@@ -39,14 +39,14 @@ module _ {C W R : Type 0} (m : Meaning C W R) where
   -- the coordinates do not fall
   abbrev pub Unfalling : List (Point C W) → Type 0
   Unfalling [] = Unit {0}
-  Unfalling (p ∷ ps) = All (λ q. Upto p.key.at q.key.at) ps × Unfalling ps
+  Unfalling (p ∷ ps) = AllByRecursion (λ q. Upto p.key.at q.key.at) ps × Unfalling ps
 
   pub unfalling : (ps : List (Point C W)) → Rising m ps → Unfalling ps
   unfalling [] r = tt
   unfalling (p ∷ ps) (h, r) =
       (All-weaker (λ q. Before m p.key q.key) (λ q. Upto p.key.at q.key.at) (λ q e. le-upto (m.order p.key.at q.key.at) (less-le (m.order p.key.at q.key.at) _ e)) ps h, unfalling ps r)
 
-  pub unfalling-parts : (xs ys : List (Point C W)) → Unfalling (xs ++ ys) → Unfalling xs × Unfalling ys × All (λ x. All (λ y. Upto x.key.at y.key.at) ys) xs
+  pub unfalling-parts : (xs ys : List (Point C W)) → Unfalling (xs ++ ys) → Unfalling xs × Unfalling ys × AllByRecursion (λ x. AllByRecursion (λ y. Upto x.key.at y.key.at) ys) xs
   unfalling-parts [] ys r = (tt, r, tt)
   unfalling-parts (x ∷ xs) ys (h, r) =
       let (a, b, c) = unfalling-parts xs ys r in

@@ -1,5 +1,5 @@
 use Rattle.std.proofs.Common.{◌+◌, ◌-◌, ◌*◌, get_or, drop, sym, refl, ◌∙◌, subst, arith, take_all, rules}
-use Rattle.std.specs.List.{AllByRecursion as All}
+use Rattle.std.specs.List.{AllByRecursion}
 use Rattle.std.proofs.lemmas.List.{at_drop_all}
 use Rattle.std.proofs.ByRecursion.{All-get_or, All-more}
 use Rattle.lines.specs.Digits.{Ten, writes}
@@ -33,7 +33,7 @@ loop-b-preserved c =
 
 pub returns-then-n-top : goal.returns-then-n-top
 returns-then-n-top c = record {
-  digits = subst (All Ten) (take_all _ _ c.loop-b-test.false) c.loop-b.invariant.0;
+  digits = subst (AllByRecursion Ten) (take_all _ _ c.loop-b-test.false) c.loop-b.invariant.0;
   some = search rules;
   few = search rules;
   value = sym (at_drop_all (writes 10 c.loop-b.n) c.args.s.now c.loop-b.b-index c.loop-b-test.false) ∙ c.loop-b.invariant.1;

@@ -1,5 +1,5 @@
 use Rattle.std.proofs.Common.{◌≡◌, length, sym, ◌∙◌, subst, arith, take_all, rules}
-use Rattle.std.specs.List.{AllByRecursion as All}
+use Rattle.std.specs.List.{AllByRecursion}
 use Rattle.std.proofs.lemmas.List.{at_drop_all}
 use Rattle.std.proofs.ByRecursion.{All-get_or, All-more}
 use Rattle.lines.specs.Digits.{Hex, writes}
@@ -26,7 +26,7 @@ loop-b-preserved c =
 
 pub returns : goal.returns
 returns c = record {
-  digits = subst (All Hex) (take_all _ _ c.loop-b-test.false) c.loop-b.invariant.0;
+  digits = subst (AllByRecursion Hex) (take_all _ _ c.loop-b-test.false) c.loop-b.invariant.0;
   eight = search rules;
   value = sym (at_drop_all (writes 16 c.loop-b.n) c.args.s.now c.loop-b.b-index c.loop-b-test.false) ∙ c.loop-b.invariant.1;
 }

@@ -1,5 +1,5 @@
 use Rattle.std.proofs.Common.{◌≡◌, ℕ, suc, ◌+◌, ◌-◌, ◌<◌, ◌∷◌, length, get_or, sym, ap, ◌∙◌, subst, arith}
-use Rattle.std.specs.List.{AllByRecursion as All}
+use Rattle.std.specs.List.{AllByRecursion}
 use Rattle.table.specs.Kids.{kids_of}
 use Rattle.table.specs.Spares.{spares}
 use Rattle.table.proofs.Steps.{sound-within, kids-some, kids-within}
@@ -41,7 +41,7 @@ give-requires g t c =
     let s = subst (λ x. Ready m a f x p) up c.requires in
     record {
       within = subst (λ q. q < length a) (sym c.at-child.ensures) (child-within m a f (H - 1) p s n c.read-n.ensures i lt);
-      apart = subst (λ x. All (λ q. q ≡ x → ⊥) (spares a f)) (sym c.at-child.ensures) (child-apart m a f (H - 1) p s n c.read-n.ensures i lt);
+      apart = subst (λ x. AllByRecursion (λ q. q ≡ x → ⊥) (spares a f)) (sym c.at-child.ensures) (child-apart m a f (H - 1) p s n c.read-n.ensures i lt);
       room = child-room m a f (H - 1) p s n c.read-n.ensures i lt;
     }
 
@@ -61,7 +61,7 @@ renew-requires g t c =
     record {
       here = omega (arith, here m a f (H - 1) p s n c.read-n.ensures i lt, c.give.auto.nodes);
       some = subst (λ ps. 0 < length ps) (sym c.remove.ensures) (some_left i (kids_of n.children) lt (two m a f (H - 1) p s n c.read-n.ensures i lt));
-      within = subst (λ ps. All (λ q. q < length b) ps) (sym c.remove.ensures) (all_left (λ q. q < length b) i (i + 1) (kids_of n.children) (subst (λ k. All (λ q. q < k) (kids_of n.children)) (sym c.give.auto.nodes) (within m a f (H - 1) p s n c.read-n.ensures i lt)));
+      within = subst (λ ps. AllByRecursion (λ q. q < length b) ps) (sym c.remove.ensures) (all_left (λ q. q < length b) i (i + 1) (kids_of n.children) (subst (λ k. AllByRecursion (λ q. q < k) (kids_of n.children)) (sym c.give.auto.nodes) (within m a f (H - 1) p s n c.read-n.ensures i lt)));
     }
 
 pub returns-then-height-eq1 : goal.returns-then-height-eq1

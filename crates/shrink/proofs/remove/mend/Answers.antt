@@ -1,5 +1,5 @@
 use Rattle.std.proofs.Common.{◌≡◌, ◌+◌, ◌<◌, length, Some, sym, subst, arith}
-use Rattle.std.specs.List.{slice_get, AllByRecursion as All}
+use Rattle.std.specs.List.{slice_get, AllByRecursion}
 use Rattle.std.proofs.ByRecursion.{All-get_or}
 use Rattle.table.specs.Kids.{kids_of}
 use Rattle.shrink.specs.Removes.{Renewed}
@@ -79,7 +79,7 @@ renew-requires-2 g c =
     record {
       here = omega (arith, node-within m a f p n h i s, c.join-one.auto.nodes);
       some = subst (λ ps. 0 < length ps) (sym kids) (some-left-if one (j + 1) (kids_of n.children) lt s.two);
-      within = subst (λ ps. All (λ q. q < length b) ps) (sym kids) (all-left-if (λ q. q < length b) one (j + 1) (j + 1 + 1) (kids_of n.children) (subst (λ k. All (λ q. q < k) (kids_of n.children)) (sym c.join-one.auto.nodes) (children-within m a f p n h i s)));
+      within = subst (λ ps. AllByRecursion (λ q. q < length b) ps) (sym kids) (all-left-if (λ q. q < length b) one (j + 1) (j + 1 + 1) (kids_of n.children) (subst (λ k. AllByRecursion (λ q. q < k) (kids_of n.children)) (sym c.join-one.auto.nodes) (children-within m a f p n h i s)));
     }
 
 pub returns : goal.returns
