@@ -1,10 +1,11 @@
 #!/usr/bin/env python3
-"""Names two list words of std as std does, and spells the other aliases in snake case.
+"""Names two list words of std as std does, spells the other aliases in snake case, and keeps off a word of std.
 
 usage: python3 tools/unalias.py     at the top, once, right after tools/respell.py
 
 The kit's port.py brings the older `All` and `Has` in as aliases of `AllByRecursion` and `ContainsAt`. The gate takes an
 alias under the name of a word of the library for that word, so the alias goes and the word stands as std names it.
+`Any` is a word of today's library too ("some element"): what holds of every value is `IsAny`.
 """
 
 import os
@@ -12,7 +13,7 @@ import re
 
 EDGE = r"[\w'\-]"
 ALIASES = [("All", "AllByRecursion"), ("Has", "ContainsAt")]
-SPELLED = [("takenOut", "taken_out"), ("removedFrom", "removed_from"), ("occursIn", "occurs_in")]
+SPELLED = [("takenOut", "taken_out"), ("removedFrom", "removed_from"), ("occursIn", "occurs_in"), ("Any", "IsAny")]
 
 
 def main():

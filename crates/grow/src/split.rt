@@ -1,7 +1,9 @@
 // A full node and one child more: two nodes.
-ghost use Rattle.std.specs.Prelude.{◌≡◌, ◌<◌, length, take, drop};
+ghost use Rattle.std.specs.Prelude.{◌≡◌, ◌<◌, [], ◌∷◌, length, take, drop};
+ghost use Rattle.trees.specs.Tree.{grow};
 ghost use Rattle.table.specs.Kids.{kids_of};
-ghost use Rattle.table.specs.Reading.{kept_in};
+ghost use Rattle.table.specs.Reading.{kept_in, tree_at, Sounds};
+ghost use Rattle.tree.specs.Forests.{Seated};
 ghost use Rattle.grow.specs.Grown.{half};
 ghost use Rattle.grow.specs.Nodes.{with_next};
 ghost use Rattle.grow.specs.Split.{Apart, Split};
@@ -39,6 +41,20 @@ pub fn halve(children: Children, i: u8, next: u16) -> Halves
     }
 }
 
+// What a node kept goes to the one of two trees with its leaf.
+fn seat_half<K: Kind>(
+    nodes: &mut [Node<K::Coordinate, K::Recorded>],
+    at: u16,
+    next: u16,
+    height: u8,
+    node: Node<K::Coordinate, K::Recorded>,
+)
+    requires { Sounds (length nodes.old) height (grow (tree_at K.Kind.meaning nodes.old height) (at ∷ next ∷ [])) }
+    ensures { Seated K.Kind.meaning nodes.old nodes.new height (at ∷ next ∷ []) (kept_in K.Kind.meaning node) }
+{
+    seat_kept::<K>(nodes, Children::two(at, next), height, node);
+}
+
 // Lays two nodes over the two parts; what the node kept goes to the half with its leaf.
 pub fn split<K: Kind>(
     nodes: &mut [Node<K::Coordinate, K::Recorded>],
@@ -53,5 +69,5 @@ pub fn split<K: Kind>(
 {
     settle::<K>(nodes, at, height, halves.left);
     settle::<K>(nodes, next, height, halves.right);
-    seat_kept::<K>(nodes, Children::two(at, next), height, node);
+    seat_half::<K>(nodes, at, next, height, node);
 }

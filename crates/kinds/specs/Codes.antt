@@ -2,7 +2,7 @@
 use Rattle.std.specs.Prelude.{ℕ, ◌&&◌, T, Float}
 use Rattle.std.specs.Float.Ieee.Fits.{and_r}
 use Rattle.kinds.specs.declared.code.Code.{Code}
-use Rattle.kinds.specs.Order.{by_number, Preorder, Any}
+use Rattle.kinds.specs.Order.{by_number, Preorder, IsAny}
 use Rattle.kinds.specs.Weight.{fit_weight}
 use Rattle.kinds.specs.Code.{by_code, fit_code}
 use Rattle.kinds.specs.Meaning.{First, Second, Numbering}
@@ -12,7 +12,7 @@ use Rattle.kinds.specs.Weights.{smaller-first, own-numbers}
 
 -- the order of one byte
 abbrev ByByte : (Code → ℕ) → Type 0
-ByByte byte = Preorder Any (λ (x y : Code). by_number (byte x) (byte y))
+ByByte byte = Preorder IsAny (λ (x y : Code). by_number (byte x) (byte y))
 
 by_byte : (byte : Code → ℕ) → ByByte byte
 by_byte byte = through byte by_number_lem

@@ -2,7 +2,7 @@
 use Rattle.std.specs.Prelude.{◌≡◌, Bool, T, ◌⊎◌, Float}
 use Rattle.std.specs.declared.cmp.Ordering.TheVariants.{Equal}
 use Rattle.std.specs.declared.cmp.Ordering.{Ordering}
-use Rattle.kinds.specs.Order.{Preorder, Any}
+use Rattle.kinds.specs.Order.{Preorder, IsAny}
 use Rattle.kinds.specs.Weight.{fit_weight, by_size}
 
 -- one fixed answer to each question, for all coordinates (C) and weights (W), fit or not; a node records a weight as an R
@@ -23,7 +23,7 @@ pub record Meaning (C W R : Type 0) : Type 0 where
 module _ {C W R : Type 0} (m : Meaning C W R) where
   -- the first law: 'not later' is total and carries over, exchanged coordinates answer the reverse, and those that tie are equal
   pub record First : Type 0 where
-    pub orders : Preorder Any m.order
+    pub orders : Preorder IsAny m.order
     pub ties : (a b : C) → m.order a b ≡ Equal → a ≡ b
 
   -- a weight that occurs in a fit point, or is a fit threshold

@@ -15,5 +15,5 @@ pub record Preorder {A : Type 0} (P : A → Type 0) (order : A → A → Orderin
   pub turned : (a b : A) → P a → P b → order b a ≡ ordering_reverse (order a b)
 
 -- every value
-abbrev pub Any : {A : Type 0} → A → Type 0
-Any a = Unit {0}
+abbrev pub IsAny : {A : Type 0} → A → Type 0
+IsAny a = Unit {0}

@@ -5,7 +5,7 @@ use Rattle.std.specs.declared.cmp.Ordering.{Ordering}
 use Rattle.std.proofs.Common.{sym, ap, ◌∙◌, subst, inl, inr, arith}
 use Rattle.std.proofs.lemmas.Bool.Decides.{nat_tests}
 use Rattle.std.specs.Ordering.{is_le, ordering_reverse, ordering_then}
-use Rattle.kinds.specs.Order.{by_number, Preorder, Any}
+use Rattle.kinds.specs.Order.{by_number, Preorder, IsAny}
 
 pub number-le : (a b : ℕ) → T (is_le (by_number a b)) → a ≤ b
 number-le a b h = grind (arith, nat_tests)
@@ -22,7 +22,7 @@ number-turned a b = grind (arith, nat_tests)
 pub number-tie : (a b : ℕ) → by_number a b ≡ Equal → a ≡ b
 number-tie a b h = grind (arith, nat_tests)
 
-pub by_number_lem : Preorder Any by_number
+pub by_number_lem : Preorder IsAny by_number
 by_number_lem = record {
   total = λ a b p q. number-total a b;
   carries = λ a b c p q r h k. le-number a c (omega (arith, number-le a b h, number-le b c k));
@@ -63,25 +63,25 @@ turned-total Less x' p = inl tt
 turned-total Equal x' p = inl tt
 turned-total Greater x' p = inr (subst (λ z. T (is_le z)) (sym p) tt)
 
--- ab, bc and ac are the answers of the first order, and AB, BC, Ac those of the second
-then-carries : (ab bc ac AB BC Ac : Ordering) → (T (is_le ab) → T (is_le bc) → T (is_le ac)) → (T (is_le (ordering_reverse ac)) → T (is_le ab) → T (is_le (ordering_reverse bc)))
-    → (T (is_le bc) → T (is_le (ordering_reverse ac)) → T (is_le (ordering_reverse ab))) → (T (is_le AB) → T (is_le BC) → T (is_le Ac))
-    → T (is_le (ordering_then ab AB)) → T (is_le (ordering_then bc BC)) → T (is_le (ordering_then ac Ac))
-then-carries Less Less Less AB BC Ac p q r s h k = tt
-then-carries Less Less Equal AB BC Ac p q r s h k = absurd (q tt tt)
-then-carries Less Less Greater AB BC Ac p q r s h k = p tt tt
-then-carries Less Equal Less AB BC Ac p q r s h k = tt
-then-carries Less Equal Equal AB BC Ac p q r s h k = absurd (r tt tt)
-then-carries Less Equal Greater AB BC Ac p q r s h k = p tt tt
-then-carries Less Greater ac AB BC Ac p q r s h k = absurd k
-then-carries Equal Less Less AB BC Ac p q r s h k = tt
-then-carries Equal Less Equal AB BC Ac p q r s h k = absurd (q tt tt)
-then-carries Equal Less Greater AB BC Ac p q r s h k = p tt tt
-then-carries Equal Equal Less AB BC Ac p q r s h k = tt
-then-carries Equal Equal Equal AB BC Ac p q r s h k = s h k
-then-carries Equal Equal Greater AB BC Ac p q r s h k = p tt tt
-then-carries Equal Greater ac AB BC Ac p q r s h k = absurd k
-then-carries Greater bc ac AB BC Ac p q r s h k = absurd h
+-- ab, bc and ac are the answers of the first order, and AB, BC, AC those of the second
+then-carries : (ab bc ac AB BC AC : Ordering) → (T (is_le ab) → T (is_le bc) → T (is_le ac)) → (T (is_le (ordering_reverse ac)) → T (is_le ab) → T (is_le (ordering_reverse bc)))
+    → (T (is_le bc) → T (is_le (ordering_reverse ac)) → T (is_le (ordering_reverse ab))) → (T (is_le AB) → T (is_le BC) → T (is_le AC))
+    → T (is_le (ordering_then ab AB)) → T (is_le (ordering_then bc BC)) → T (is_le (ordering_then ac AC))
+then-carries Less Less Less AB BC AC p q r s h k = tt
+then-carries Less Less Equal AB BC AC p q r s h k = absurd (q tt tt)
+then-carries Less Less Greater AB BC AC p q r s h k = p tt tt
+then-carries Less Equal Less AB BC AC p q r s h k = tt
+then-carries Less Equal Equal AB BC AC p q r s h k = absurd (r tt tt)
+then-carries Less Equal Greater AB BC AC p q r s h k = p tt tt
+then-carries Less Greater ac AB BC AC p q r s h k = absurd k
+then-carries Equal Less Less AB BC AC p q r s h k = tt
+then-carries Equal Less Equal AB BC AC p q r s h k = absurd (q tt tt)
+then-carries Equal Less Greater AB BC AC p q r s h k = p tt tt
+then-carries Equal Equal Less AB BC AC p q r s h k = tt
+then-carries Equal Equal Equal AB BC AC p q r s h k = s h k
+then-carries Equal Equal Greater AB BC AC p q r s h k = p tt tt
+then-carries Equal Greater ac AB BC AC p q r s h k = absurd k
+then-carries Greater bc ac AB BC AC p q r s h k = absurd h
 
 module _ {A : Type 0} {P : A → Type 0} {o O : A → A → Ordering} (f : Preorder P o) (g : Preorder P O) where
   then-turn : (a b : A) → P a → P b → ordering_then (o b a) (O b a) ≡ ordering_reverse (ordering_then (o a b) (O a b))

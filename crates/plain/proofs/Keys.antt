@@ -1,7 +1,7 @@
 -- Key order is total, carries over, and ties only a key with itself.
 use Rattle.std.proofs.Common.{◌≡◌, ℕ, true, false, T, Ordering, Less, Equal, Greater, sym, refl, ap, ◌∙◌, subst, arith}
 use Rattle.std.specs.Ordering.{is_le, is_eq, is_lt, ordering_reverse}
-use Rattle.kinds.specs.Order.{Preorder, Any}
+use Rattle.kinds.specs.Order.{Preorder, IsAny}
 use Rattle.kinds.specs.Meaning.{Meaning, First}
 use Rattle.kinds.specs.Orders.{and_then, through, by_number_lem, then_tie, number-tie}
 use Rattle.plain.specs.declared.point.Key.{Key}
@@ -34,7 +34,7 @@ at_most Equal h k = absurd (k refl)
 at_most Greater h k = absurd h
 
 module _ {C W R : Type 0} (m : Meaning C W R) (law : First m) where
-  pub keys : Preorder Any (key_order m)
+  pub keys : Preorder IsAny (key_order m)
   keys = and_then (through (λ (a : Key C). a.at) law.orders) (through (λ (a : Key C). a.number) by_number_lem)
 
   pub tie : (a b : Key C) → key_order m a b ≡ Equal → a ≡ b

@@ -3,7 +3,7 @@ use Rattle.std.specs.Prelude.{◌≡◌, suc, true, false, cond, T, List, [], �
 use Rattle.std.specs.declared.cmp.Ordering.TheVariants.{Equal}
 use Rattle.std.specs.Float.Ieee.{le}
 use Rattle.std.specs.Ordering.{is_eq}
-use Rattle.kinds.specs.Order.{Preorder, Any}
+use Rattle.kinds.specs.Order.{Preorder, IsAny}
 use Rattle.kinds.specs.Meaning.{Meaning}
 use Rattle.plain.specs.declared.point.Key.{Key}
 use Rattle.plain.specs.declared.point.Point.{Point}
@@ -14,7 +14,7 @@ use Rattle.plain.specs.Windows.{window, total, Covered}
 module _ {C W R : Type 0} (m : Meaning C W R) where
   -- key order is total among all keys, and only a key ties with itself; rank order is total among fit points, and only points of one key tie
   pub record Orders : Type 0 where
-    pub keys : Preorder Any (key_order m)
+    pub keys : Preorder IsAny (key_order m)
     pub keys_tie : (a b : Key C) → key_order m a b ≡ Equal → a ≡ b
     pub ranks : Preorder (FitPoint m) (rank_order m)
     pub ranks_tie : (p q : Point C W) → rank_order m p q ≡ Equal → p.key ≡ q.key
