@@ -1,11 +1,11 @@
 // Trees with one node altered: the checker says so of each.
+use crate::checks::check;
 use crate::model::Pt;
 use crate::runs::{Order, blank, sweep};
 use crate::steps::Act;
 use build::build::build;
 use checker::rules::holds_rules;
 use kinds::Small;
-use std::process::Abort;
 use std::test::Fail;
 use table::header::Header;
 use table::node::Node;
@@ -27,19 +27,19 @@ fn altered(n: Node<u64, u32>, way: u8) -> Node<u64, u32> {
 }
 
 // Whether a node can be altered at no place without the checker saying so.
-fn all_seen(rt: &impl Abort, nodes: &mut [Node<u64, u32>], header: Header, way: u8) {
+fn all_seen(nodes: &mut [Node<u64, u32>], header: Header, way: u8) -> Result<(), Fail> {
     for i in 0..nodes.len() {
         let n = nodes[i];
         if i < header.free.fresh as usize {
             nodes[i] = altered(n, way);
-            assert!(rt;
+            check(
                 !holds_rules::<Small>(nodes, header),
-                "the rules do not hold"
-            );
+                "the rules do not hold",
+            )?;
             nodes[i] = n;
         }
     }
-    assert!(rt; holds_rules::<Small>(nodes, header));
+    check(holds_rules::<Small>(nodes, header), "the rules hold again")
 }
 
 // The header of another tree: elsewhere, higher, or of fewer points.
@@ -58,11 +58,10 @@ fn other(header: Header, way: u8) -> Header {
 }
 
 // A tree of twenty points, altered in each way at each place, and under each other header.
-fn all_ways(rt: &impl Abort, nodes: &mut [Node<u64, u32>], list: &mut Vec<Pt>) -> Result<(), Fail> {
-    assert!(rt; nodes.len() <= 32767);
+fn all_ways(nodes: &mut [Node<u64, u32>], list: &mut Vec<Pt>) -> Result<(), Fail> {
+    check(nodes.len() <= 32767, "a table of nodes")?;
     let mut header = build::<Small>(nodes, 0);
     sweep::<Small>(
-        rt,
         nodes,
         &mut header,
         list,
@@ -71,13 +70,13 @@ fn all_ways(rt: &impl Abort, nodes: &mut [Node<u64, u32>], list: &mut Vec<Pt>) -
         20,
         false,
     )?;
-    assert!(rt; header.count == 20);
+    check(header.count == 20, "twenty points")?;
     for way in 0..4 {
-        all_seen(rt, nodes, header, way);
-        assert!(rt;
+        all_seen(nodes, header, way)?;
+        check(
             !holds_rules::<Small>(nodes, other(header, way)),
-            "another header"
-        );
+            "another header",
+        )?;
     }
     Ok(())
 }
@@ -87,5 +86,5 @@ fn all_ways(rt: &impl Abort, nodes: &mut [Node<u64, u32>], list: &mut Vec<Pt>) -
 fn broken(rt: HostRuntime) -> Result<(), Fail> {
     let mut table = [blank(); 63];
     let mut list = Vec::new(rt.alloc());
-    all_ways(&rt, &mut table, &mut list)
+    all_ways(&mut table, &mut list)
 }

@@ -5,6 +5,8 @@
 #[cfg(test)]
 mod broken;
 #[cfg(test)]
+mod checks;
+#[cfg(test)]
 mod model;
 #[cfg(test)]
 mod runs;

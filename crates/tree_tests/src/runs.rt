@@ -1,12 +1,12 @@
 // Runs of changes: keys that rise, that fall or that meet in the middle, and keys by chance.
 ghost use Rattle.tree.specs.Standing.{Standing};
 
+use crate::checks::check;
 use crate::model::Pt;
 use crate::steps::{Act, step, verify};
 use build::build::build;
 use build::leaf::lay_leaf;
 use kinds::{Kind, Large, Small};
-use std::process::Abort;
 use std::test::Fail;
 use table::children::Children;
 use table::header::Header;
@@ -47,7 +47,6 @@ pub fn point_of(order: Order, i: u32) -> Pt {
 
 // One change for each of the first n points of an order, from the first on or from the last back.
 pub fn sweep<K: Kind<Coordinate = u64, Recorded = u32>>(
-    rt: &impl Abort,
     nodes: &mut [Node<u64, u32>],
     header: &mut Header,
     list: &mut Vec<Pt>,
@@ -61,7 +60,7 @@ pub fn sweep<K: Kind<Coordinate = u64, Recorded = u32>>(
 {
     for i in 0..n {
         let k = if back { n - 1 - i } else { i };
-        step::<K>(rt, nodes, header, list, act, point_of(order, k))?;
+        step::<K>(nodes, header, list, act, point_of(order, k))?;
     }
     Ok(())
 }
@@ -106,7 +105,6 @@ fn chance_point(seed: u64, odds: Odds) -> Pt {
 
 // So many changes by chance.
 fn churn<K: Kind<Coordinate = u64, Recorded = u32>>(
-    rt: &impl Abort,
     nodes: &mut [Node<u64, u32>],
     header: &mut Header,
     list: &mut Vec<Pt>,
@@ -120,7 +118,6 @@ fn churn<K: Kind<Coordinate = u64, Recorded = u32>>(
     for _ in 0..n {
         seed = next(seed);
         step::<K>(
-            rt,
             nodes,
             header,
             list,
@@ -134,7 +131,6 @@ fn churn<K: Kind<Coordinate = u64, Recorded = u32>>(
 // The sweeps of one order: all points in, other weights, all points out from the same end; then in
 // again, and out from the other end.
 fn sweeps<K: Kind<Coordinate = u64, Recorded = u32>>(
-    rt: &impl Abort,
     nodes: &mut [Node<u64, u32>],
     header: &mut Header,
     list: &mut Vec<Pt>,
@@ -144,37 +140,35 @@ fn sweeps<K: Kind<Coordinate = u64, Recorded = u32>>(
     requires { Standing K.Kind.meaning nodes.old header.old }
     ensures { Standing K.Kind.meaning nodes.new header.new }
 {
-    sweep::<K>(rt, nodes, header, list, Act::Insert, order, n, false)?;
-    sweep::<K>(rt, nodes, header, list, Act::Change, order, n, true)?;
-    sweep::<K>(rt, nodes, header, list, Act::Remove, order, n, false)?;
-    sweep::<K>(rt, nodes, header, list, Act::Insert, order, n, false)?;
-    sweep::<K>(rt, nodes, header, list, Act::Remove, order, n, true)
+    sweep::<K>(nodes, header, list, Act::Insert, order, n, false)?;
+    sweep::<K>(nodes, header, list, Act::Change, order, n, true)?;
+    sweep::<K>(nodes, header, list, Act::Remove, order, n, false)?;
+    sweep::<K>(nodes, header, list, Act::Insert, order, n, false)?;
+    sweep::<K>(nodes, header, list, Act::Remove, order, n, true)
 }
 
 // All sweeps, one after the other.
 fn all_sweeps<K: Kind<Coordinate = u64, Recorded = u32>>(
-    rt: &impl Abort,
     nodes: &mut [Node<u64, u32>],
     list: &mut Vec<Pt>,
     n: u32,
 ) -> Result<(), Fail> {
-    assert!(rt; nodes.len() <= 32767);
+    check(nodes.len() <= 32767, "a table of nodes")?;
     let mut header = build::<K>(nodes, 0);
-    sweeps::<K>(rt, nodes, &mut header, list, Order::Rising, n)?;
-    sweeps::<K>(rt, nodes, &mut header, list, Order::Falling, n)?;
-    sweeps::<K>(rt, nodes, &mut header, list, Order::Inwards, n)?;
-    sweeps::<K>(rt, nodes, &mut header, list, Order::Tied, n)
+    sweeps::<K>(nodes, &mut header, list, Order::Rising, n)?;
+    sweeps::<K>(nodes, &mut header, list, Order::Falling, n)?;
+    sweeps::<K>(nodes, &mut header, list, Order::Inwards, n)?;
+    sweeps::<K>(nodes, &mut header, list, Order::Tied, n)
 }
 
 // Changes by chance: the table fills up and stays full, then it empties; then with all weights
 // tied, and with all points at one coordinate.
 fn all_chances<K: Kind<Coordinate = u64, Recorded = u32>>(
-    rt: &impl Abort,
     nodes: &mut [Node<u64, u32>],
     list: &mut Vec<Pt>,
     n: u32,
 ) -> Result<(), Fail> {
-    assert!(rt; nodes.len() <= 32767);
+    check(nodes.len() <= 32767, "a table of nodes")?;
     let mut header = build::<K>(nodes, 0);
     list.clear();
     let wide = 0xFFFF_FFFF;
@@ -202,21 +196,20 @@ fn all_chances<K: Kind<Coordinate = u64, Recorded = u32>>(
         weights: 3,
         inserts: 4,
     };
-    churn::<K>(rt, nodes, &mut header, list, full, n)?;
-    churn::<K>(rt, nodes, &mut header, list, bare, n)?;
-    churn::<K>(rt, nodes, &mut header, list, tied, n)?;
-    churn::<K>(rt, nodes, &mut header, list, one, n)
+    churn::<K>(nodes, &mut header, list, full, n)?;
+    churn::<K>(nodes, &mut header, list, bare, n)?;
+    churn::<K>(nodes, &mut header, list, tied, n)?;
+    churn::<K>(nodes, &mut header, list, one, n)
 }
 
 // Changes by chance on tables of no node to 8 nodes.
 fn tiny<K: Kind<Coordinate = u64, Recorded = u32>>(
-    rt: &impl Abort,
     nodes: &mut [Node<u64, u32>],
     list: &mut Vec<Pt>,
 ) -> Result<(), Fail> {
     for k in 0..9 {
-        assert!(rt; k <= nodes.len());
-        all_chances::<K>(rt, &mut nodes[..k], list, 500)?;
+        check(k <= nodes.len(), "a part of the table")?;
+        all_chances::<K>(&mut nodes[..k], list, 500)?;
     }
     Ok(())
 }
@@ -238,13 +231,12 @@ pub fn blank() -> Node<u64, u32> {
 
 // A tree built over so many leaves, with changes of it after that.
 fn built<K: Kind<Coordinate = u64, Recorded = u32>>(
-    rt: &impl Abort,
     nodes: &mut [Node<u64, u32>],
     list: &mut Vec<Pt>,
     n: u16,
 ) -> Result<(), Fail> {
-    assert!(rt; nodes.len() <= 32767);
-    assert!(rt; 2 * n as usize <= nodes.len() + 1);
+    check(nodes.len() <= 32767, "a table of nodes")?;
+    check(2 * n as usize <= nodes.len() + 1, "room for the leaves")?;
     list.clear();
     for i in 0..n {
         let x = point_of(Order::Rising, i as u32);
@@ -252,24 +244,23 @@ fn built<K: Kind<Coordinate = u64, Recorded = u32>>(
         list.push(x)?;
     }
     let mut header = build::<K>(nodes, n);
-    verify::<K>(rt, nodes, header, list.as_slice())?;
+    verify::<K>(nodes, header, list.as_slice())?;
     let odds = Odds {
         coordinates: 63,
         numbers: 0,
         weights: 0xFF,
         inserts: 3,
     };
-    churn::<K>(rt, nodes, &mut header, list, odds, 100)
+    churn::<K>(nodes, &mut header, list, odds, 100)
 }
 
 // Trees over 0 to 64 leaves.
 fn all_builds<K: Kind<Coordinate = u64, Recorded = u32>>(
-    rt: &impl Abort,
     nodes: &mut [Node<u64, u32>],
     list: &mut Vec<Pt>,
 ) -> Result<(), Fail> {
     for n in 0..65 {
-        built::<K>(rt, nodes, list, n)?;
+        built::<K>(nodes, list, n)?;
     }
     Ok(())
 }
@@ -279,7 +270,7 @@ fn all_builds<K: Kind<Coordinate = u64, Recorded = u32>>(
 fn builds(rt: HostRuntime) -> Result<(), Fail> {
     let mut table = [blank(); 127];
     let mut list = Vec::new(rt.alloc());
-    all_builds::<Small>(&rt, &mut table, &mut list)
+    all_builds::<Small>(&mut table, &mut list)
 }
 
 // Every order on a table for 32 points, of kind small.
@@ -287,7 +278,7 @@ fn builds(rt: HostRuntime) -> Result<(), Fail> {
 fn sweeps_small(rt: HostRuntime) -> Result<(), Fail> {
     let mut table = [blank(); 63];
     let mut list = Vec::new(rt.alloc());
-    all_sweeps::<Small>(&rt, &mut table, &mut list, 40)
+    all_sweeps::<Small>(&mut table, &mut list, 40)
 }
 
 // Every order on a table for 256 points, of kind large.
@@ -295,7 +286,7 @@ fn sweeps_small(rt: HostRuntime) -> Result<(), Fail> {
 fn sweeps_large(rt: HostRuntime) -> Result<(), Fail> {
     let mut table = [blank(); 511];
     let mut list = Vec::new(rt.alloc());
-    all_sweeps::<Large>(&rt, &mut table, &mut list, 300)
+    all_sweeps::<Large>(&mut table, &mut list, 300)
 }
 
 // Chance on tables of no node to 8, and on one for 32 points, of kind small.
@@ -303,8 +294,8 @@ fn sweeps_large(rt: HostRuntime) -> Result<(), Fail> {
 fn chances_small(rt: HostRuntime) -> Result<(), Fail> {
     let mut table = [blank(); 63];
     let mut list = Vec::new(rt.alloc());
-    tiny::<Small>(&rt, &mut table, &mut list)?;
-    all_chances::<Small>(&rt, &mut table, &mut list, 10000)
+    tiny::<Small>(&mut table, &mut list)?;
+    all_chances::<Small>(&mut table, &mut list, 10000)
 }
 
 // Chance on a table for 256 points, of kind large.
@@ -312,5 +303,5 @@ fn chances_small(rt: HostRuntime) -> Result<(), Fail> {
 fn chances_large(rt: HostRuntime) -> Result<(), Fail> {
     let mut table = [blank(); 511];
     let mut list = Vec::new(rt.alloc());
-    all_chances::<Large>(&rt, &mut table, &mut list, 4000)
+    all_chances::<Large>(&mut table, &mut list, 4000)
 }

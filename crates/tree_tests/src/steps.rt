@@ -1,6 +1,7 @@
 // One change of a tree and of the plain list beside it, and the tests after it.
 ghost use Rattle.tree.specs.Standing.{Standing};
 
+use crate::checks::check;
 use crate::model::{Pt, has_key, put, set_weight, take};
 use change::change::change;
 use change::find::find;
@@ -9,7 +10,6 @@ use grow::whole::insert;
 use kinds::Kind;
 use plain::Key;
 use shrink::whole::remove;
-use std::process::Abort;
 use std::test::Fail;
 use table::header::Header;
 use table::node::Node;
@@ -108,17 +108,16 @@ fn is_found<K: Kind<Coordinate = u64, Recorded = u32>>(
 
 // The rules hold, and the tree has just the points of the list.
 pub fn verify<K: Kind<Coordinate = u64, Recorded = u32>>(
-    rt: &impl Abort,
     nodes: &[Node<u64, u32>],
     header: Header,
     list: &[Pt],
 ) -> Result<(), Fail>
     requires { Standing K.Kind.meaning nodes.now header }
 {
-    assert!(rt; holds_rules::<K>(nodes, header), "the rules hold");
-    assert!(rt; header.count as usize == list.len(), "as many points");
+    check(holds_rules::<K>(nodes, header), "the rules hold")?;
+    check(header.count as usize == list.len(), "as many points")?;
     for i in 0..list.len() {
-        assert!(rt; is_found::<K>(nodes, header, list[i]), "the same points");
+        check(is_found::<K>(nodes, header, list[i]), "the same points")?;
     }
     Ok(())
 }
@@ -159,7 +158,6 @@ fn make<K: Kind<Coordinate = u64, Recorded = u32>>(
 
 // Makes one change and tests what stands then.
 pub fn step<K: Kind<Coordinate = u64, Recorded = u32>>(
-    rt: &impl Abort,
     nodes: &mut [Node<u64, u32>],
     header: &mut Header,
     list: &mut Vec<Pt>,
@@ -171,5 +169,5 @@ pub fn step<K: Kind<Coordinate = u64, Recorded = u32>>(
 {
     make::<K>(nodes, header, list, act, x)?;
     let now = *header;
-    verify::<K>(rt, nodes, now, list.as_slice())
+    verify::<K>(nodes, now, list.as_slice())
 }
