@@ -16,7 +16,8 @@ use Rattle.shapes.proofs.Wholes.{whole-sorted}
 use Rattle.shapes.specs.Settles.{Whole}
 use Rattle.table.specs.declared.node.Node.{Node}
 use Rattle.table.specs.declared.header.Header.{Header}
-use Rattle.table.specs.Reading.{key_in, leaf_of, tree_at}
+use Rattle.table.specs.Reading.{leaf_of, tree_at}
+use Rattle.table.specs.Keys.{key_in}
 use Rattle.table.proofs.Frames.{nth-grow}
 use Rattle.table.proofs.Steps.{kids, below, fork-was}
 use Rattle.tree.specs.Places.{pick_at}

@@ -4,7 +4,8 @@ ghost use Rattle.std.specs.Ordering.{is_eq};
 ghost use Rattle.plain.specs.Points.{key_order};
 ghost use Rattle.plain.specs.Set.{weight_at};
 ghost use Rattle.trees.specs.Kept.{found};
-ghost use Rattle.table.specs.Reading.{key_in, tree_at, Sound};
+ghost use Rattle.table.specs.Reading.{tree_at, Sound};
+ghost use Rattle.table.specs.Keys.{key_in};
 ghost use Rattle.tree.specs.Standing.{points_of, Standing, Ruled};
 
 use kinds::Kind;

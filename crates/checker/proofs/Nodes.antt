@@ -10,7 +10,8 @@ use Rattle.trees.specs.Tree.{Forest, fork, more, grow, points, points_all}
 use Rattle.trees.specs.Rules.{kept_all}
 use Rattle.table.specs.declared.node.Node.{Node}
 use Rattle.table.specs.Kids.{kids_of}
-use Rattle.table.specs.Reading.{key_in, point_in, kept_in, fork_of, tree_at}
+use Rattle.table.specs.Reading.{point_in, kept_in, fork_of, tree_at}
+use Rattle.table.specs.Keys.{key_in}
 use Rattle.table.proofs.Cases.{few}
 use Rattle.table.proofs.Frames.{count-grow}
 use Rattle.tree.proofs.Heights.{up}

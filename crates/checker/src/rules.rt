@@ -3,7 +3,8 @@ ghost use Rattle.std.specs.Prelude.{◌≡◌, ◌-◌, true, Some, None};
 ghost use Rattle.plain.specs.Points.{key_order, FitPoint};
 ghost use Rattle.trees.specs.Tree.{grow};
 ghost use Rattle.table.specs.Kids.{kids_of};
-ghost use Rattle.table.specs.Reading.{key_in, point_in, kept_in, tree_at};
+ghost use Rattle.table.specs.Reading.{point_in, kept_in, tree_at};
+ghost use Rattle.table.specs.Keys.{key_in};
 ghost use Rattle.checker.specs.Passes.{next_at, Under, Follows, kept_over, LeafPasses, ForkPasses, PassesAll};
 ghost use Rattle.checker.specs.Checked.{Checked};
 

@@ -19,7 +19,8 @@ use Rattle.table.specs.declared.children.Children.{Children}
 use Rattle.table.specs.declared.free.Free.{Free}
 use Rattle.table.specs.Kids.{kids_of}
 use Rattle.table.specs.Spares.{spares}
-use Rattle.table.specs.Reading.{key_in, kept_in, tree_at, inside, Sound, Sounds}
+use Rattle.table.specs.Reading.{kept_in, tree_at, inside, Sound, Sounds}
+use Rattle.table.specs.Keys.{key_in}
 use Rattle.table.proofs.Frames.{hit-here, nth-grow, count-grow, front-grow, back-grow, places-at, exchange-grow}
 use Rattle.table.proofs.Steps.{inside_one, kids, below, fork-was, fork-now, other, level-nth, degrees-nth, uses-nth}
 use Rattle.tree.proofs.Picks.{key-tree}

@@ -12,10 +12,11 @@ use Rattle.table.specs.declared.node.Stored.{Stored}
 use Rattle.table.specs.declared.children.Children.{Children}
 use Rattle.table.specs.declared.free.Free.{Free}
 use Rattle.table.specs.Spares.{spares}
-use Rattle.table.specs.Reading.{key_in, point_in, kept_in, leaf_of, tree_at, inside}
+use Rattle.table.specs.Reading.{point_in, kept_in, leaf_of, tree_at, inside}
+use Rattle.table.specs.Keys.{key_in}
 use Rattle.table.proofs.Frames.{nth-set-same, nth-set-other, hit-here, place_at}
 use Rattle.table.proofs.Steps.{inside-lt, inside_one}
-use Rattle.tree.specs.Nodes.{bare}
+use Rattle.table.specs.Nodes.{bare}
 use Rattle.tree.proofs.Pulls.{leaf-was}
 use Rattle.tree.proofs.Spared.{all-occurring, spares-kept}
 use Rattle.grow.specs.Grown.{Ready, Inserted, most, half}

@@ -16,7 +16,8 @@ use Rattle.shapes.proofs.Forks.{fine-left, fine-right, halves-bare, pair, pair-u
 use Rattle.table.specs.declared.node.Node.{Node}
 use Rattle.table.specs.declared.free.Free.{Free}
 use Rattle.table.specs.Spares.{spares}
-use Rattle.table.specs.Reading.{key_in, kept_in, tree_at, inside, Sounds}
+use Rattle.table.specs.Reading.{kept_in, tree_at, inside, Sounds}
+use Rattle.table.specs.Keys.{key_in}
 use Rattle.table.proofs.Frames.{count-grow, front-grow, back-grow}
 use Rattle.table.proofs.Steps.{inside_one, kids, below}
 use Rattle.tree.proofs.Heights.{up}

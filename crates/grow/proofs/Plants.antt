@@ -17,7 +17,7 @@ use Rattle.table.specs.Spares.{spares}
 use Rattle.table.specs.Reading.{point_in, leaf_of, tree_at, inside, Sounds}
 use Rattle.table.proofs.Frames.{nth-set-same, nth-set-other, hit-here}
 use Rattle.table.proofs.Steps.{inside-lt, inside_one}
-use Rattle.tree.specs.Nodes.{bare, keeping}
+use Rattle.table.specs.Nodes.{bare, keeping}
 use Rattle.tree.specs.Forests.{Laid, Seated}
 use Rattle.tree.proofs.Spared.{spares-kept, all-inside}
 use Rattle.grow.specs.Grown.{Ready, Inserted, most, half}

@@ -1,7 +1,7 @@
 // A new leaf beside another.
 ghost use Rattle.std.specs.Prelude.{◌≡◌, false, Some};
 ghost use Rattle.table.specs.Reading.{point_in};
-ghost use Rattle.tree.specs.Nodes.{bare};
+ghost use Rattle.table.specs.Nodes.{bare};
 ghost use Rattle.grow.specs.Grown.{Ready, Inserted};
 
 use kinds::Kind;

@@ -9,7 +9,8 @@ use Rattle.trees.specs.Moves.{seated}
 use Rattle.trees.proofs.Bares.{bare_all, alike-uses_all, alike-level_all, alike-degrees_all, seated-bare}
 use Rattle.table.specs.declared.node.Node.{Node}
 use Rattle.table.specs.Kids.{kids_of}
-use Rattle.table.specs.Reading.{key_in, kept_in, tree_at, Sounds}
+use Rattle.table.specs.Reading.{kept_in, tree_at, Sounds}
+use Rattle.table.specs.Keys.{key_in}
 use Rattle.table.proofs.Frames.{count-grow}
 use Rattle.table.proofs.Steps.{fork-was}
 use Rattle.tree.specs.Forests.{Seated}

@@ -17,7 +17,8 @@ use Rattle.table.specs.declared.node.Node.{Node}
 use Rattle.table.specs.declared.free.Free.{Free}
 use Rattle.table.specs.Kids.{kids_of}
 use Rattle.table.specs.Spares.{spares}
-use Rattle.table.specs.Reading.{key_in, kept_in, tree_at, inside, Sound, Sounds}
+use Rattle.table.specs.Reading.{kept_in, tree_at, inside, Sound, Sounds}
+use Rattle.table.specs.Keys.{key_in}
 use Rattle.table.proofs.Frames.{hit-here, front-grow, back-grow, nth-grow, count-grow, place_at, exchange-grow}
 use Rattle.table.proofs.Steps.{inside-lt, inside_one, fork-was}
 use Rattle.tree.specs.Places.{pick_at}

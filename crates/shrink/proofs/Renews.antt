@@ -8,7 +8,8 @@ use Rattle.trees.specs.Moves.{first_key}
 use Rattle.table.specs.declared.node.Node.{Node}
 use Rattle.table.specs.declared.children.Children.{Children}
 use Rattle.table.specs.Kids.{kids_of}
-use Rattle.table.specs.Reading.{key_in, kept_in, tree_at}
+use Rattle.table.specs.Reading.{kept_in, tree_at}
+use Rattle.table.specs.Keys.{key_in}
 use Rattle.table.proofs.Steps.{fork-now, other}
 use Rattle.tree.specs.Places.{key_of_node}
 use Rattle.tree.proofs.Picks.{key-tree}

@@ -13,7 +13,8 @@ use Rattle.table.specs.declared.children.Children.{Children}
 use Rattle.table.specs.declared.free.Free.{Free}
 use Rattle.table.specs.Kids.{kids_of}
 use Rattle.table.specs.Spares.{spares}
-use Rattle.table.specs.Reading.{key_in, kept_in, tree_at, inside, Sounds}
+use Rattle.table.specs.Reading.{kept_in, tree_at, inside, Sounds}
+use Rattle.table.specs.Keys.{key_in}
 
 -- the node with another key and other children
 abbrev pub over : {C R : Type 0} → Node C R → Stored C R → Children → Node C R

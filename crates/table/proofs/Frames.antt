@@ -6,7 +6,8 @@ use Rattle.trees.specs.Tree.{Tree, Forest, fork, more, grow, hit, uses, uses_all
 use Rattle.trees.specs.Moves.{exchange}
 use Rattle.table.specs.declared.node.Node.{Node}
 use Rattle.table.specs.Kids.{kids_of}
-use Rattle.table.specs.Reading.{key_in, kept_in, leaf_of, fork_of, tree_at}
+use Rattle.table.specs.Reading.{kept_in, leaf_of, fork_of, tree_at}
+use Rattle.table.specs.Keys.{key_in}
 
 pub nth-set-same : {X : Type 0} (xs : List X) (i : ℕ) (x : X) → i < length xs → slice_get (set xs i x) i ≡ Some x
 nth-set-same [] i x h = absurd (omega arith)

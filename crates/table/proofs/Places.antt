@@ -11,15 +11,15 @@ length-row (suc k) p = ap suc (length-row k (suc p))
 
 module _ {C R : Type 0} (ns : List (Node C R)) where
   -- the first of the chained places is taken
-  pub take-chained : (f : Free) (n : Node C R) → 0 < f.chained → slice_get ns f.head ≡ Some n → spares ns f ≡ f.head ∷ spares ns (record { head = n.children.first; chained = f.chained - 1; fresh = f.fresh })
+  pub take-chained : (f : Free) (n : Node C R) → 0 < f.chained → slice_get ns f.head ≡ Some n → spares ns f ≡ f.head ∷ spares ns (record { head = link_of (Some n); chained = f.chained - 1; fresh = f.fresh })
   take-chained f n some is = go f.chained some
     where
-      go : (k : ℕ) → 0 < k → chain ns k f.head ++ row (length ns - f.fresh) f.fresh ≡ f.head ∷ (chain ns (k - 1) n.children.first ++ row (length ns - f.fresh) f.fresh)
+      go : (k : ℕ) → 0 < k → chain ns k f.head ++ row (length ns - f.fresh) f.fresh ≡ f.head ∷ (chain ns (k - 1) (link_of (Some n)) ++ row (length ns - f.fresh) f.fresh)
       go zero h = absurd (omega arith)
       go (suc k) h =
           let one : suc k - 1 ≡ k = omega arith in
           ap (λ (p : ℕ). f.head ∷ (chain ns k p ++ row (length ns - f.fresh) f.fresh)) (ap link_of is)
-          ∙ ap (λ (j : ℕ). f.head ∷ (chain ns j n.children.first ++ row (length ns - f.fresh) f.fresh)) (sym one)
+          ∙ ap (λ (j : ℕ). f.head ∷ (chain ns j (link_of (Some n)) ++ row (length ns - f.fresh) f.fresh)) (sym one)
 
   -- where none is chained, the first that was never used
   pub take-fresh : (f : Free) → f.chained ≡ 0 → 0 < length (spares ns f) → spares ns f ≡ f.fresh ∷ spares ns (record { head = f.head; chained = f.chained; fresh = f.fresh + 1 })
@@ -66,7 +66,7 @@ module _ {C R : Type 0} (a b : List (Node C R)) where
       length-chain (suc k) p = ap suc (length-chain k (link_of (slice_get a p)))
 
   -- a place given back heads the chain
-  pub give-chained : (f : Free) (p : ℕ) (n : Node C R) → length b ≡ length a → slice_get b p ≡ Some n → n.children.first ≡ f.head → AllByRecursion (λ q. slice_get b q ≡ slice_get a q) (spares a f)
+  pub give-chained : (f : Free) (p : ℕ) (n : Node C R) → length b ≡ length a → slice_get b p ≡ Some n → link_of (Some n) ≡ f.head → AllByRecursion (λ q. slice_get b q ≡ slice_get a q) (spares a f)
       → spares b (record { head = p; chained = f.chained + 1; fresh = f.fresh }) ≡ p ∷ spares a f
   give-chained f p n len is link s =
       let one : f.chained + 1 ≡ suc f.chained = omega arith in

@@ -7,7 +7,8 @@ use Rattle.trees.specs.Tree.{Tree, Forest, gone, leaf, fork, none, more, grow, h
 use Rattle.trees.specs.Rules.{Level, LevelAll, Degrees, DegreesAll}
 use Rattle.table.specs.declared.node.Node.{Node}
 use Rattle.table.specs.Kids.{kids_of}
-use Rattle.table.specs.Reading.{key_in, point_in, kept_in, leaf_of, fork_of, tree_at, inside, Sound, Sounds, Became}
+use Rattle.table.specs.Reading.{point_in, kept_in, leaf_of, fork_of, tree_at, inside, Sound, Sounds, Became}
+use Rattle.table.specs.Keys.{key_in}
 use Rattle.table.proofs.Frames.{nth-set-same, nth-set-other, hit-here, not_there, count-grow, nth-grow, place_at, same-tree, same-trees}
 
 -- ---- places inside the table

@@ -1,3 +1,5 @@
 pub mod Kids
+pub mod Keys
+pub mod Nodes
 pub mod Spares
 pub mod Reading

@@ -2,26 +2,28 @@
 use Rattle.std.specs.Prelude.{◌≡◌, ℕ, zero, suc, ◌≤◌, cond, List, Some, None, Option, nat_lt}
 use Rattle.std.specs.List.{slice_get}
 use Rattle.kinds.specs.Meaning.{Meaning}
-use Rattle.plain.specs.declared.point.Key.{Key}
 use Rattle.plain.specs.declared.point.Point.{Point}
 use Rattle.trees.specs.Tree.{Tree, Forest, gone, leaf, fork, grow, uses, uses_all}
 use Rattle.trees.specs.Rules.{Level, LevelAll, Degrees, DegreesAll}
 use Rattle.table.specs.declared.node.Node.{Node}
 use Rattle.table.specs.declared.node.Stored.{Stored}
+use Rattle.table.specs.declared.subtree.Subtree.{Subtree}
+use Rattle.table.specs.Keys.{key_in}
 use Rattle.table.specs.Kids.{kids_of}
-
--- the key of a stored point
-abbrev pub key_in : {C R : Type 0} → Stored C R → Key C
-key_in s = record { at = s.at; number = s.number }
 
 module _ {C W R : Type 0} (m : Meaning C W R) where
   -- a stored point, its weight recalled
   abbrev pub point_in : Stored C R → Point C W
   point_in s = record { key = key_in s; weight = m.recalled s.weight }
 
+  -- a stored point, if there is one
+  abbrev pub point_in_any : Option (Stored C R) → Option (Point C W)
+  point_in_any None = None
+  point_in_any (Some s) = Some (point_in s)
+
   -- the point that a node keeps, if any
   abbrev pub kept_in : Node C R → Option (Point C W)
-  kept_in n = cond n.keeps (Some (point_in n.kept)) None
+  kept_in n = point_in_any n.kept
 
   -- a leaf, by the node at its place
   abbrev pub leaf_of : ℕ → Option (Node C R) → Tree C W
@@ -37,6 +39,10 @@ module _ {C W R : Type 0} (m : Meaning C W R) where
   abbrev pub tree_at : List (Node C R) → ℕ → ℕ → Tree C W
   tree_at ns zero p = leaf_of p (slice_get ns p)
   tree_at ns (suc h) p = fork_of (tree_at ns h) p (slice_get ns p)
+
+  -- the tree of a root and a height
+  abbrev pub tree_of : List (Node C R) → Subtree → Tree C W
+  tree_of ns t = tree_at ns t.height t.root
 
 -- 1 for a place of a table of n nodes
 abbrev pub inside : ℕ → ℕ → ℕ

@@ -1,5 +1,5 @@
 -- The free places of a table.
-use Rattle.std.specs.Prelude.{ℕ, zero, suc, ◌-◌, List, [], ◌∷◌, ◌++◌, length, Some, None, Option}
+use Rattle.std.specs.Prelude.{ℕ, zero, suc, ◌-◌, List, [], ◌∷◌, ◌++◌, length, Some, None, Option, slice_index}
 use Rattle.std.specs.List.{slice_get}
 use Rattle.table.specs.declared.node.Node.{Node}
 use Rattle.table.specs.declared.free.Free.{Free}
@@ -7,7 +7,7 @@ use Rattle.table.specs.declared.free.Free.{Free}
 -- the place that a free node names as the next
 abbrev pub link_of : {C R : Type 0} → Option (Node C R) → ℕ
 link_of None = 0
-link_of (Some n) = n.children.first
+link_of (Some n) = slice_index n.children.places 0
 
 -- so many places, each named by the one before, from p on
 abbrev pub chain : {C R : Type 0} → List (Node C R) → ℕ → ℕ → List ℕ

@@ -1,23 +1,24 @@
 // The places of a table that hold no node of the tree: some are chained, each with the place of
 // the next, and those from `fresh` on were never used.
-ghost use Rattle.std.specs.Prelude.{◌≡◌, ℕ, ◌<◌, ◌≤◌, ◌∷◌, length, ◌≢◌};
+ghost use Rattle.std.specs.Prelude.{◌≡◌, ℕ, ◌<◌, ◌≤◌, ◌∷◌, length, Some, ◌≢◌};
 ghost use Rattle.std.specs.List.{slice_get, AllByRecursion};
-ghost use Rattle.table.specs.Spares.{spares};
+ghost use Rattle.table.specs.Spares.{link_of, spares};
 
 use crate::children::Children;
 use crate::node::{Node, read, write};
 
-#[derive(Clone, Copy)]
+#[derive(Clone, Copy, Debug, PartialEq, Eq)]
 pub struct Free {
     pub head: u16,
     pub chained: u16,
     pub fresh: u16,
 }
 
-fn link_of<C: Copy, R: Copy>(node: Node<C, R>) -> u16
-    ensures { result ≡ node.children.first }
+// The place that a free node names as the next.
+fn link<C: Copy, R: Copy>(node: Node<C, R>) -> u16
+    ensures { result ≡ link_of (Some node) }
 {
-    node.children.first
+    node.children.places[0]
 }
 
 impl Free {
@@ -30,7 +31,7 @@ impl Free {
     {
         if self.chained > 0 {
             let p = self.head;
-            self.head = link_of(read(nodes, p));
+            self.head = link(read(nodes, p));
             self.chained -= 1;
             return p;
         }
@@ -55,13 +56,8 @@ impl Free {
 }
 
 // A free node, with the place of the next.
-fn linked<C: Copy, R: Copy>(node: Node<C, R>, link: u16) -> Node<C, R>
-    ensures { result.children.first ≡ link }
+fn linked<C: Copy, R: Copy>(node: Node<C, R>, next: u16) -> Node<C, R>
+    ensures { link_of (Some result) ≡ next }
 {
-    Node {
-        own: node.own,
-        kept: node.kept,
-        children: Children::none(link),
-        keeps: false,
-    }
+    Node::bare(node.own, Children::none(next))
 }

@@ -1,10 +1,10 @@
 // What is known of a tree beside its table: where it begins, and which places are free.
 use crate::free::Free;
+use crate::subtree::Subtree;
 
-#[derive(Clone, Copy)]
+#[derive(Clone, Copy, Debug, PartialEq, Eq)]
 pub struct Header {
-    pub root: u16,
-    pub height: u8,
+    pub top: Subtree,
     // how many points there are; with none there is no tree
     pub count: u16,
     pub free: Free,

@@ -6,3 +6,4 @@ pub mod children;
 pub mod free;
 pub mod header;
 pub mod node;
+pub mod subtree;

@@ -6,10 +6,11 @@ use Rattle.trees.specs.Tree.{Tree, leaf, fork, nth_tree, kept_by, alter, uses}
 use Rattle.trees.specs.Kept.{pull}
 use Rattle.trees.proofs.Bares.{alike-uses, pull-bare}
 use Rattle.table.specs.declared.node.Node.{Node}
-use Rattle.table.specs.Reading.{key_in, point_in, kept_in, leaf_of, tree_at, Sound, Became}
+use Rattle.table.specs.Reading.{point_in, point_in_any, kept_in, leaf_of, tree_at, Sound, Became}
+use Rattle.table.specs.Keys.{key_in}
 use Rattle.table.proofs.Frames.{nth-grow}
 use Rattle.table.proofs.Steps.{kids, below, fork-was, leaf-became, own-became, child-became}
-use Rattle.tree.specs.Nodes.{keeping}
+use Rattle.table.specs.Nodes.{keeping}
 use Rattle.tree.specs.Places.{kept_of_node, best_at}
 use Rattle.tree.proofs.Picks.{kept-tree, best-tree}
 
@@ -24,10 +25,10 @@ module _ {C W R : Type 0} (m : Meaning C W R) (a : List (Node C R)) where
   pub pull-uses : (h : ℕ) (t : Tree C W) (q : ℕ) → uses (pull m h t) q ≡ uses t q
   pull-uses h t q = alike-uses (pull m h t) t (pull-bare m h t) q
 
-  pub pull-leaf : (H at : ℕ) (n : Node C R) → H ≡ 0 → slice_get a at ≡ Some n → at < length a → Became m a (set a at (keeping n false n.kept)) H at (pull m H (tree_at m a H at))
+  pub pull-leaf : (H at : ℕ) (n : Node C R) → H ≡ 0 → slice_get a at ≡ Some n → at < length a → Became m a (set a at (keeping n None)) H at (pull m H (tree_at m a H at))
   pull-leaf H at n z is within =
-      subst (λ k. Became m a (set a at (keeping n false n.kept)) k at (pull m k (tree_at m a k at))) (sym z)
-      (renamed m a _ 0 at _ _ (sym (ap (pull m 0) (leaf-was at n is))) (leaf-became m a at (keeping n false n.kept) within))
+      subst (λ k. Became m a (set a at (keeping n None)) k at (pull m k (tree_at m a k at))) (sym z)
+      (renamed m a _ 0 at _ _ (sym (ap (pull m 0) (leaf-was at n is))) (leaf-became m a at (keeping n None) within))
 
   module _ (h at : ℕ) (n : Node C R) (is : slice_get a at ≡ Some n) (s : Sound (length a) (suc h) (tree_at m a (suc h) at))
       (i : ℕ) (best-is : i ≡ best_at m a (kids m n)) (lt : i < length (kids m n)) (top : Node C R) (top-is : slice_get a (get_or (kids m n) i 0) ≡ Some top) where
@@ -42,19 +43,13 @@ module _ {C W R : Type 0} (m : Meaning C W R) (a : List (Node C R)) where
         ∙ ap (λ o. fork at (key_in n.own) o (cond (is_some o) (alter i (pull m h) (below m a h n)) (below m a h n))) top_kept
         ∙ ap (λ c. fork at (key_in n.own) (kept_in m top) (cond c (alter i (pull m h) (below m a h n)) (below m a h n))) e
 
-    none_kept : top.keeps ≡ false → kept_in m top ≡ None
-    none_kept e = ap (λ b. cond b (Some (point_in m top.kept)) None) e
-
-    some-kept : top.keeps ≡ true → kept_in m top ≡ Some (point_in m top.kept)
-    some-kept e = ap (λ b. cond b (Some (point_in m top.kept)) None) e
-
-    pub pull-stop : top.keeps ≡ false → Became m a (set a at (keeping n false n.kept)) (suc h) at (pull m (suc h) (tree_at m a (suc h) at))
+    pub pull-stop : top.kept ≡ None → Became m a (set a at (keeping n None)) (suc h) at (pull m (suc h) (tree_at m a (suc h) at))
     pull-stop e =
-        renamed m a _ (suc h) at _ _ (ap (λ o. fork at (key_in n.own) o (below m a h n)) (sym (none_kept e)) ∙ sym (pulled-is false (ap is_some (none_kept e))))
-        (own-became m a h at n is s (keeping n false n.kept) refl)
+        renamed m a _ (suc h) at _ _ (ap (λ o. fork at (key_in n.own) o (below m a h n)) (sym (ap (point_in_any m) e)) ∙ sym (pulled-is false (ap (λ o. is_some (point_in_any m o)) e)))
+        (own-became m a h at n is s (keeping n None) refl)
 
-    pub pull-on : (b : List (Node C R)) → length b ≡ length a → top.keeps ≡ true → Became m a b h (get_or (kids m n) i 0) (pull m h (tree_at m a h (get_or (kids m n) i 0)))
-        → Became m a (set b at (keeping n top.keeps top.kept)) (suc h) at (pull m (suc h) (tree_at m a (suc h) at))
+    pub pull-on : (b : List (Node C R)) → length b ≡ length a → is_some (kept_in m top) ≡ true → Became m a b h (get_or (kids m n) i 0) (pull m h (tree_at m a h (get_or (kids m n) i 0)))
+        → Became m a (set b at (keeping n top.kept)) (suc h) at (pull m (suc h) (tree_at m a (suc h) at))
     pull-on b len e bec =
-        renamed m a _ (suc h) at _ _ (sym (pulled-is true (ap is_some (some-kept e))))
-        (child-became m a h at n is s b len i lt (pull m h) (pull-uses h) bec (keeping n top.keeps top.kept) refl)
+        renamed m a _ (suc h) at _ _ (sym (pulled-is true e))
+        (child-became m a h at n is s b len i lt (pull m h) (pull-uses h) bec (keeping n top.kept) refl)

@@ -11,9 +11,10 @@ use Rattle.trees.specs.Kept.{pick, pull, push, has_key, take_out, weigh}
 use Rattle.trees.proofs.Bares.{alike-uses, push-bare, take_bare, weigh-bare}
 use Rattle.table.specs.declared.node.Node.{Node}
 use Rattle.table.specs.declared.node.Stored.{Stored}
-use Rattle.table.specs.Reading.{key_in, point_in, kept_in, tree_at, Sound, Became}
+use Rattle.table.specs.Reading.{point_in, point_in_any, kept_in, tree_at, Sound, Became}
+use Rattle.table.specs.Keys.{key_in}
 use Rattle.table.proofs.Steps.{kids, below, fork-was, leaf-became, own-became, child-became, child-only}
-use Rattle.tree.specs.Nodes.{keeping, weighing}
+use Rattle.table.specs.Nodes.{keeping, weighing}
 use Rattle.tree.specs.Places.{pick_at}
 use Rattle.tree.proofs.Picks.{pick-tree}
 use Rattle.tree.proofs.Pulls.{renamed, leaf-was}
@@ -30,15 +31,15 @@ module _ {C W R : Type 0} (m : Meaning C W R) (a : List (Node C R)) where
 
   -- ---- at a leaf
   module _ (H at : ℕ) (n : Node C R) (z : H ≡ 0) (is : slice_get a at ≡ Some n) (within : at < length a) where
-    pub push-leaf : (x : Stored C R) → Became m a (set a at (keeping n true x)) H at (push m H (point_in m x) (tree_at m a H at))
+    pub push-leaf : (x : Stored C R) → Became m a (set a at (keeping n (Some x))) H at (push m H (point_in m x) (tree_at m a H at))
     push-leaf x =
-        subst (λ k. Became m a (set a at (keeping n true x)) k at (push m k (point_in m x) (tree_at m a k at))) (sym z)
-        (renamed m a _ 0 at _ _ (sym (ap (push m 0 (point_in m x)) (leaf-was m a at n is))) (leaf-became m a at (keeping n true x) within))
+        subst (λ k. Became m a (set a at (keeping n (Some x))) k at (push m k (point_in m x) (tree_at m a k at))) (sym z)
+        (renamed m a _ 0 at _ _ (sym (ap (push m 0 (point_in m x)) (leaf-was m a at n is))) (leaf-became m a at (keeping n (Some x)) within))
 
-    pub take-leaf : (k : Key C) → Became m a (set a at (keeping n false n.kept)) H at (take_out m H k (tree_at m a H at))
+    pub take-leaf : (k : Key C) → Became m a (set a at (keeping n None)) H at (take_out m H k (tree_at m a H at))
     take-leaf k =
-        subst (λ j. Became m a (set a at (keeping n false n.kept)) j at (take_out m j k (tree_at m a j at))) (sym z)
-        (renamed m a _ 0 at _ _ (sym (ap (take_out m 0 k) (leaf-was m a at n is))) (leaf-became m a at (keeping n false n.kept) within))
+        subst (λ j. Became m a (set a at (keeping n None)) j at (take_out m j k (tree_at m a j at))) (sym z)
+        (renamed m a _ 0 at _ _ (sym (ap (take_out m 0 k) (leaf-was m a at n is))) (leaf-became m a at (keeping n None) within))
 
     pub weigh-leaf : (k : Key C) (w : R) → Became m a (set a at (weighing n w)) H at (weigh m H k (m.recalled w) (tree_at m a H at))
     weigh-leaf k w =
@@ -53,16 +54,10 @@ module _ {C W R : Type 0} (m : Meaning C W R) (a : List (Node C R)) where
     abbrev pushed_as : Point C W → Point C W → ℕ → Tree C W
     pushed_as u v j = fork at (key_in n.own) (Some u) (alter j (push m h v) (below m a h n))
 
-    none_kept : n.keeps ≡ false → kept_in m n ≡ None
-    none_kept e = ap (λ b. cond b (Some (point_in m n.kept)) None) e
-
-    some-kept : n.keeps ≡ true → kept_in m n ≡ Some (point_in m n.kept)
-    some-kept e = ap (λ b. cond b (Some (point_in m n.kept)) None) e
-
-    pub push-empty : (x : Stored C R) → n.keeps ≡ false → Became m a (set a at (keeping n true x)) (suc h) at (push m (suc h) (point_in m x) (tree_at m a (suc h) at))
+    pub push-empty : (x : Stored C R) → n.kept ≡ None → Became m a (set a at (keeping n (Some x))) (suc h) at (push m (suc h) (point_in m x) (tree_at m a (suc h) at))
     push-empty x e =
-        renamed m a _ (suc h) at _ _ (sym (ap (push m (suc h) (point_in m x)) (fork-was m a h at n is ∙ ap fork_keeping (none_kept e))))
-        (own-became m a h at n is s (keeping n true x) refl)
+        renamed m a _ (suc h) at _ _ (sym (ap (push m (suc h) (point_in m x)) (fork-was m a h at n is ∙ ap (λ o. fork_keeping (point_in_any m o)) e)))
+        (own-became m a h at n is s (keeping n (Some x)) refl)
 
     pub take-here : (k : Key C) (b : List (Node C R)) → has_key m k (kept_in m n) ≡ true → Became m a b (suc h) at (pull m (suc h) (tree_at m a (suc h) at)) → Became m a b (suc h) at (take_out m (suc h) k (tree_at m a (suc h) at))
     take-here k b e bec =
@@ -76,14 +71,14 @@ module _ {C W R : Type 0} (m : Meaning C W R) (a : List (Node C R)) where
       index : (k : Key C) → i ≡ pick_at m a k (kids m n) → pick m k (below m a h n) ≡ i
       index k e = pick-tree m a h k (kids m n) ∙ sym e
 
-      pub push-on : (x first last : Stored C R) → n.keeps ≡ true
-          → first ≡ cond (is_lt (rank_order m (point_in m x) (point_in m n.kept))) x n.kept
-          → last ≡ cond (is_lt (rank_order m (point_in m x) (point_in m n.kept))) n.kept x
+      pub push-on : (x y first last : Stored C R) → n.kept ≡ Some y
+          → first ≡ cond (is_lt (rank_order m (point_in m x) (point_in m y))) x y
+          → last ≡ cond (is_lt (rank_order m (point_in m x) (point_in m y))) y x
           → i ≡ pick_at m a (key_in last) (kids m n)
           → Became m a b h (get_or (kids m n) i 0) (push m h (point_in m last) (tree_at m a h (get_or (kids m n) i 0)))
-          → Became m a (set b at (keeping n true first)) (suc h) at (push m (suc h) (point_in m x) (tree_at m a (suc h) at))
-      push-on x first last e f l picked bec =
-          renamed m a _ (suc h) at _ _ (sym pushed-is) (child-became m a h at n is s b len i lt (push m h (point_in m last)) (push-uses h (point_in m last)) bec (keeping n true first) refl)
+          → Became m a (set b at (keeping n (Some first))) (suc h) at (push m (suc h) (point_in m x) (tree_at m a (suc h) at))
+      push-on x y first last e f l picked bec =
+          renamed m a _ (suc h) at _ _ (sym pushed-is) (child-became m a h at n is s b len i lt (push m h (point_in m last)) (push-uses h (point_in m last)) bec (keeping n (Some first)) refl)
         where
           either : (c : Bool) (u v : Stored C R) → cond c (point_in m u) (point_in m v) ≡ point_in m (cond c u v)
           either true u v = refl
@@ -91,11 +86,11 @@ module _ {C W R : Type 0} (m : Meaning C W R) (a : List (Node C R)) where
 
           pushed-is : push m (suc h) (point_in m x) (tree_at m a (suc h) at) ≡ pushed_as (point_in m first) (point_in m last) i
           pushed-is =
-              let c = is_lt (rank_order m (point_in m x) (point_in m n.kept)) in
-              let fs : cond c (point_in m x) (point_in m n.kept) ≡ point_in m first = either c x n.kept ∙ ap (point_in m) (sym f) in
-              let ls : cond c (point_in m n.kept) (point_in m x) ≡ point_in m last = either c n.kept x ∙ ap (point_in m) (sym l) in
-              ap (push m (suc h) (point_in m x)) (fork-was m a h at n is ∙ ap fork_keeping (some-kept e))
-              ∙ ap (λ u. pushed_as u (cond c (point_in m n.kept) (point_in m x)) (pick m (cond c (point_in m n.kept) (point_in m x)).key (below m a h n))) fs
+              let c = is_lt (rank_order m (point_in m x) (point_in m y)) in
+              let fs : cond c (point_in m x) (point_in m y) ≡ point_in m first = either c x y ∙ ap (point_in m) (sym f) in
+              let ls : cond c (point_in m y) (point_in m x) ≡ point_in m last = either c y x ∙ ap (point_in m) (sym l) in
+              ap (push m (suc h) (point_in m x)) (fork-was m a h at n is ∙ ap (λ o. fork_keeping (point_in_any m o)) e)
+              ∙ ap (λ u. pushed_as u (cond c (point_in m y) (point_in m x)) (pick m (cond c (point_in m y) (point_in m x)).key (below m a h n))) fs
               ∙ ap (λ v. pushed_as (point_in m first) v (pick m v.key (below m a h n))) ls
               ∙ ap (pushed_as (point_in m first) (point_in m last)) (index (key_in last) picked)
 

@@ -12,10 +12,11 @@ use Rattle.trees.specs.Moves.{first_key, settled}
 use Rattle.table.specs.declared.node.Node.{Node}
 use Rattle.table.specs.declared.children.Children.{Children}
 use Rattle.table.specs.Kids.{kids_of}
-use Rattle.table.specs.Reading.{key_in, tree_at, inside, Sound, Sounds, Became}
+use Rattle.table.specs.Reading.{tree_at, inside, Sound, Sounds, Became}
+use Rattle.table.specs.Keys.{key_in}
 use Rattle.table.proofs.Frames.{hit-here, nth-grow, count-grow}
 use Rattle.table.proofs.Steps.{inside_one, sound-nth, sound-within, uses-nth, alter-grow, fork-now, other}
-use Rattle.tree.specs.Nodes.{bare}
+use Rattle.table.specs.Nodes.{bare}
 use Rattle.tree.specs.Places.{key_of_node, pick_at}
 use Rattle.tree.specs.Forests.{Seated}
 use Rattle.tree.proofs.Picks.{key-tree, pick-tree}

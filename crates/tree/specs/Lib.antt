@@ -1,5 +1,5 @@
 pub mod Places
-pub mod Nodes
 pub mod Forests
+pub mod Rewritten
 pub mod Standing
 pub mod Theorems

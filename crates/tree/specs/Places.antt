@@ -6,7 +6,8 @@ use Rattle.plain.specs.declared.point.Key.{Key}
 use Rattle.plain.specs.declared.point.Point.{Point}
 use Rattle.trees.specs.Kept.{is_before, leads}
 use Rattle.table.specs.declared.node.Node.{Node}
-use Rattle.table.specs.Reading.{key_in, kept_in}
+use Rattle.table.specs.Reading.{kept_in}
+use Rattle.table.specs.Keys.{key_in}
 
 -- the key that the node at a place records
 abbrev pub key_of_node : {C R : Type 0} → Option (Node C R) → Option (Key C)

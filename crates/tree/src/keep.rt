@@ -1,5 +1,5 @@
 // How points that nodes keep move: down towards their leaves, and up where one has gone.
-ghost use Rattle.std.specs.Prelude.{◌≡◌, true, false, length, if◌then◌else◌};
+ghost use Rattle.std.specs.Prelude.{◌≡◌, length, if◌then◌else◌};
 ghost use Rattle.std.specs.Ordering.{is_lt};
 ghost use Rattle.plain.specs.Points.{rank_order};
 ghost use Rattle.trees.specs.Kept.{has_key};
@@ -7,71 +7,42 @@ ghost use Rattle.trees.specs.Kept.{pull as pulled};
 ghost use Rattle.trees.specs.Kept.{push as pushed};
 ghost use Rattle.trees.specs.Kept.{take_out as taken_out};
 ghost use Rattle.trees.specs.Kept.{weigh as weighed};
-ghost use Rattle.table.specs.Reading.{point_in, kept_in, tree_at, Sound, Became};
-ghost use Rattle.tree.specs.Nodes.{keeping, weighing};
+ghost use Rattle.table.specs.Reading.{point_in, kept_in, tree_of, Sound, Became};
 
-use crate::search::{best_child, key_of, outranks, pick_child};
+use crate::search::{best_child, outranks, pick_child};
 use kinds::Kind;
 use plain::{Key, key_order};
 use table::node::{Node, Stored, read, write};
-
-// The node with `x` kept.
-fn with_kept<C: Copy, R: Copy>(n: Node<C, R>, x: Stored<C, R>) -> Node<C, R>
-    ensures { result ≡ keeping n true x }
-{
-    Node {
-        own: n.own,
-        kept: x,
-        children: n.children,
-        keeps: true,
-    }
-}
-
-// The node with none kept.
-fn emptied<C: Copy, R: Copy>(n: Node<C, R>) -> Node<C, R>
-    ensures { result ≡ keeping n false n.kept }
-{
-    let mut node = n;
-    node.keeps = false;
-    node
-}
-
-// The node with what `top` keeps.
-fn keeping_as<C: Copy, R: Copy>(n: Node<C, R>, top: Node<C, R>) -> Node<C, R>
-    ensures { result ≡ keeping n top.keeps top.kept }
-{
-    Node {
-        own: n.own,
-        kept: top.kept,
-        children: n.children,
-        keeps: top.keeps,
-    }
-}
+use table::subtree::Subtree;
 
 // The point that a node keeps goes; of those that its children keep the first in rank moves up,
 // and so on below.
-pub fn pull<K: Kind>(nodes: &mut [Node<K::Coordinate, K::Recorded>], at: u16, height: u8)
-    requires { Sound (length nodes.old) height (tree_at K.Kind.meaning nodes.old height at) }
-    ensures { Became K.Kind.meaning nodes.old nodes.new height at (pulled K.Kind.meaning height (tree_at K.Kind.meaning nodes.old height at)) }
+pub fn pull<K: Kind>(nodes: &mut [Node<K::Coordinate, K::Recorded>], tree: Subtree)
+    requires { Sound (length nodes.old) tree.height (tree_of K.Kind.meaning nodes.old tree) }
+    ensures { Became K.Kind.meaning nodes.old nodes.new tree.height tree.root (pulled K.Kind.meaning tree.height (tree_of K.Kind.meaning nodes.old tree)) }
 {
-    let n = read(nodes, at);
-    if height == 0 {
-        write(nodes, at, emptied(n));
+    let n = read(nodes, tree.root);
+    if tree.height == 0 {
+        write(nodes, tree.root, n.keeping(None));
         return;
     }
     let i = best_child::<K>(nodes, n.children);
-    let child = n.children.at(i);
-    let top = read(nodes, child);
-    if !top.keeps {
-        write(nodes, at, emptied(n));
+    let child = Subtree {
+        root: n.children.at(i),
+        height: tree.height - 1,
+    };
+    let top = read(nodes, child.root);
+    let kept = top.kept;
+    let Some(_) = kept else {
+        write(nodes, tree.root, n.keeping(None));
         return;
-    }
-    pull::<K>(nodes, child, height - 1);
-    write(nodes, at, keeping_as(n, top));
+    };
+    pull::<K>(nodes, child);
+    write(nodes, tree.root, n.keeping(kept));
 }
 
 // Two points in rank order.
-#[derive(Clone, Copy)]
+#[derive(Clone, Copy, Debug, PartialEq, Eq)]
 pub struct Ranked<C, R> {
     pub first: Stored<C, R>,
     pub last: Stored<C, R>,
@@ -94,89 +65,84 @@ fn in_rank<K: Kind>(
 // that comes first in rank stays, and the other goes on towards its leaf.
 pub fn push<K: Kind>(
     nodes: &mut [Node<K::Coordinate, K::Recorded>],
-    at: u16,
-    height: u8,
+    tree: Subtree,
     x: Stored<K::Coordinate, K::Recorded>,
 )
-    requires { Sound (length nodes.old) height (tree_at K.Kind.meaning nodes.old height at) }
-    ensures { Became K.Kind.meaning nodes.old nodes.new height at (pushed K.Kind.meaning height (point_in K.Kind.meaning x) (tree_at K.Kind.meaning nodes.old height at)) }
+    requires { Sound (length nodes.old) tree.height (tree_of K.Kind.meaning nodes.old tree) }
+    ensures { Became K.Kind.meaning nodes.old nodes.new tree.height tree.root (pushed K.Kind.meaning tree.height (point_in K.Kind.meaning x) (tree_of K.Kind.meaning nodes.old tree)) }
 {
-    let n = read(nodes, at);
-    if height == 0 {
-        write(nodes, at, with_kept(n, x));
+    let n = read(nodes, tree.root);
+    if tree.height == 0 {
+        write(nodes, tree.root, n.keeping(Some(x)));
         return;
     }
-    if !n.keeps {
-        write(nodes, at, with_kept(n, x));
+    let kept = n.kept;
+    let Some(y) = kept else {
+        write(nodes, tree.root, n.keeping(Some(x)));
         return;
-    }
-    let two = in_rank::<K>(x, n.kept);
-    let i = pick_child::<K>(nodes, n.children, key_of(two.last));
-    let child = n.children.at(i);
-    push::<K>(nodes, child, height - 1, two.last);
-    write(nodes, at, with_kept(n, two.first));
+    };
+    let two = in_rank::<K>(x, y);
+    let i = pick_child::<K>(nodes, n.children, two.last.key());
+    let child = Subtree {
+        root: n.children.at(i),
+        height: tree.height - 1,
+    };
+    push::<K>(nodes, child, two.last);
+    write(nodes, tree.root, n.keeping(Some(two.first)));
 }
 
 // Whether a node keeps the point of a key.
 fn keeps_key<K: Kind>(n: Node<K::Coordinate, K::Recorded>, key: Key<K::Coordinate>) -> bool
     ensures { result ≡ has_key K.Kind.meaning key (kept_in K.Kind.meaning n) }
 {
-    if !n.keeps {
-        return false;
-    }
-    key_order::<K>(key, key_of(n.kept)).is_eq()
+    n.kept.is_some_and(|x| key_order::<K>(key, x.key()).is_eq())
 }
 
 // The point of a key is no longer kept.
 pub fn take_out<K: Kind>(
     nodes: &mut [Node<K::Coordinate, K::Recorded>],
-    at: u16,
-    height: u8,
+    tree: Subtree,
     key: Key<K::Coordinate>,
 )
-    requires { Sound (length nodes.old) height (tree_at K.Kind.meaning nodes.old height at) }
-    ensures { Became K.Kind.meaning nodes.old nodes.new height at (taken_out K.Kind.meaning height key (tree_at K.Kind.meaning nodes.old height at)) }
+    requires { Sound (length nodes.old) tree.height (tree_of K.Kind.meaning nodes.old tree) }
+    ensures { Became K.Kind.meaning nodes.old nodes.new tree.height tree.root (taken_out K.Kind.meaning tree.height key (tree_of K.Kind.meaning nodes.old tree)) }
 {
-    let n = read(nodes, at);
-    if height == 0 {
-        write(nodes, at, emptied(n));
+    let n = read(nodes, tree.root);
+    if tree.height == 0 {
+        write(nodes, tree.root, n.keeping(None));
         return;
     }
     if keeps_key::<K>(n, key) {
-        pull::<K>(nodes, at, height);
+        pull::<K>(nodes, tree);
         return;
     }
     let i = pick_child::<K>(nodes, n.children, key);
-    let child = n.children.at(i);
-    take_out::<K>(nodes, child, height - 1, key);
-}
-
-// The node with another weight of its own.
-fn with_weight<C: Copy, R: Copy>(n: Node<C, R>, weight: R) -> Node<C, R>
-    ensures { result ≡ weighing n weight }
-{
-    let mut node = n;
-    node.own.weight = weight;
-    node
+    let child = Subtree {
+        root: n.children.at(i),
+        height: tree.height - 1,
+    };
+    take_out::<K>(nodes, child, key);
 }
 
 // The leaf on the way to a key gets another weight.
 pub fn weigh<K: Kind>(
     nodes: &mut [Node<K::Coordinate, K::Recorded>],
-    at: u16,
-    height: u8,
+    tree: Subtree,
     key: Key<K::Coordinate>,
     weight: K::Recorded,
 )
-    requires { Sound (length nodes.old) height (tree_at K.Kind.meaning nodes.old height at) }
-    ensures { Became K.Kind.meaning nodes.old nodes.new height at (weighed K.Kind.meaning height key (K.Kind.meaning.recalled weight) (tree_at K.Kind.meaning nodes.old height at)) }
+    requires { Sound (length nodes.old) tree.height (tree_of K.Kind.meaning nodes.old tree) }
+    ensures { Became K.Kind.meaning nodes.old nodes.new tree.height tree.root (weighed K.Kind.meaning tree.height key (K.Kind.meaning.recalled weight) (tree_of K.Kind.meaning nodes.old tree)) }
 {
-    let n = read(nodes, at);
-    if height == 0 {
-        write(nodes, at, with_weight(n, weight));
+    let n = read(nodes, tree.root);
+    if tree.height == 0 {
+        write(nodes, tree.root, n.weighing(weight));
         return;
     }
     let i = pick_child::<K>(nodes, n.children, key);
-    let child = n.children.at(i);
-    weigh::<K>(nodes, child, height - 1, key, weight);
+    let child = Subtree {
+        root: n.children.at(i),
+        height: tree.height - 1,
+    };
+    weigh::<K>(nodes, child, key, weight);
 }

@@ -2,6 +2,7 @@
 #![tactic(auto)]
 
 pub mod keep;
+pub mod rewrite;
 pub mod search;
 pub mod settle;
 pub mod theorems;

@@ -5,7 +5,8 @@ ghost use Rattle.std.specs.Ordering.{is_lt};
 ghost use Rattle.plain.specs.Points.{rank_order};
 ghost use Rattle.trees.specs.Kept.{leads, is_before};
 ghost use Rattle.table.specs.Kids.{kids_of};
-ghost use Rattle.table.specs.Reading.{key_in, point_in, kept_in};
+ghost use Rattle.table.specs.Reading.{point_in, kept_in};
+ghost use Rattle.table.specs.Keys.{key_in};
 ghost use Rattle.tree.specs.Places.{key_at, pick_at, best_at};
 
 use kinds::Kind;
@@ -13,25 +14,12 @@ use plain::{Key, Point, key_order, rank_order};
 use table::children::Children;
 use table::node::{Node, Stored, read};
 
-// The key of a stored point.
-pub fn key_of<C: Copy, R: Copy>(s: Stored<C, R>) -> Key<C>
-    ensures { result ≡ key_in s }
-{
-    Key {
-        at: s.at,
-        number: s.number,
-    }
-}
-
 // A stored point, its weight recalled.
 pub fn point_of<K: Kind>(s: Stored<K::Coordinate, K::Recorded>) -> Point<K::Coordinate, K::Weight>
     ensures { result ≡ point_in K.Kind.meaning s }
 {
     Point {
-        key: Key {
-            at: s.at,
-            number: s.number,
-        },
+        key: s.key(),
         weight: K::recall(s.weight),
     }
 }
@@ -53,13 +41,11 @@ pub fn leads_over<K: Kind>(
 ) -> bool
     ensures { result ≡ leads K.Kind.meaning (kept_in K.Kind.meaning a) (kept_in K.Kind.meaning b) }
 {
-    if !a.keeps {
-        return false;
+    match (a.kept, b.kept) {
+        (None, _) => false,
+        (Some(_), None) => true,
+        (Some(x), Some(y)) => outranks::<K>(x, y),
     }
-    if !b.keeps {
-        return true;
-    }
-    outranks::<K>(a.kept, b.kept)
 }
 
 // Whether a key comes before the one that the node at a place records.
@@ -72,7 +58,7 @@ fn is_before<K: Kind>(
     ensures { result ≡ is_before K.Kind.meaning key (key_at nodes.now p) }
 {
     let node = read(nodes, p);
-    key_order::<K>(key, key_of(node.own)).is_lt()
+    key_order::<K>(key, node.own.key()).is_lt()
 }
 
 // The number of the child on the way to a key.
@@ -80,7 +66,7 @@ pub fn pick_child<K: Kind>(
     nodes: &[Node<K::Coordinate, K::Recorded>],
     children: Children,
     key: Key<K::Coordinate>,
-) -> u8
+) -> usize
     requires within { AllByRecursion (λ q. q < length nodes.now) (kids_of children) }
     requires some { 0 < length (kids_of children) }
     ensures is { result ≡ pick_at K.Kind.meaning nodes.now key (kids_of children) }
@@ -96,7 +82,7 @@ pub fn pick_child<K: Kind>(
 }
 
 // The number of the child that keeps the first point in rank order.
-pub fn best_child<K: Kind>(nodes: &[Node<K::Coordinate, K::Recorded>], children: Children) -> u8
+pub fn best_child<K: Kind>(nodes: &[Node<K::Coordinate, K::Recorded>], children: Children) -> usize
     requires within { AllByRecursion (λ q. q < length nodes.now) (kids_of children) }
     requires some { 0 < length (kids_of children) }
     ensures is { result ≡ best_at K.Kind.meaning nodes.now (kids_of children) }

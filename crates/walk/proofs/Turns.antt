@@ -10,7 +10,8 @@ use Rattle.walked.specs.Walk.{starts_by, walk, walk_all}
 use Rattle.walked.proofs.Parts.{joined-join}
 use Rattle.walked.proofs.Stacks.{walk-open}
 use Rattle.table.specs.declared.node.Node.{Node}
-use Rattle.table.specs.Reading.{key_in, kept_in, tree_at, Sound}
+use Rattle.table.specs.Reading.{kept_in, tree_at, Sound}
+use Rattle.table.specs.Keys.{key_in}
 use Rattle.table.proofs.Cases.{few}
 use Rattle.table.proofs.Steps.{kids, below, fork-was, kid-sound}
 use Rattle.tree.specs.Places.{key_at}

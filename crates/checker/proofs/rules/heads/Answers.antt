@@ -2,7 +2,7 @@ use Rattle.std.proofs.Common.{◌≡◌, true, Some, sym, ap, ◌∙◌}
 use Rattle.std.specs.Ordering.{is_eq}
 use Rattle.plain.specs.Points.{key_order}
 use Rattle.plain.proofs.Keys.{tie, eq-equal}
-use Rattle.table.specs.Reading.{key_in}
+use Rattle.table.specs.Keys.{key_in}
 use Rattle.checker.proofs.rules.heads.Goals as goal
 
 pub returns : goal.returns

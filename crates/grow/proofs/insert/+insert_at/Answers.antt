@@ -1,7 +1,8 @@
 use Rattle.std.proofs.Common.{◌≡◌, suc, ◌+◌, ◌-◌, ◌<◌, ◌≤◌, ◌∷◌, ◌++◌, length, get_or, take, drop, set, Some, None, sym, ap, ◌∙◌, subst, arith}
 use Rattle.std.proofs.ByRecursion.{All-get_or}
 use Rattle.table.specs.Kids.{kids_of}
-use Rattle.table.specs.Reading.{key_in, point_in, kept_in}
+use Rattle.table.specs.Reading.{point_in, kept_in}
+use Rattle.table.specs.Keys.{key_in}
 use Rattle.table.proofs.Cases.{few}
 use Rattle.table.proofs.Steps.{kids-some, kids-within}
 use Rattle.tree.specs.Places.{pick_at}

@@ -1,8 +1,9 @@
 use Rattle.std.proofs.Common.{◌≡◌, true, false, length, set, Some, sym, ap, ◌∙◌, subst, arith, length-set}
 use Rattle.std.specs.Ordering.{is_lt}
 use Rattle.plain.specs.Points.{key_order}
-use Rattle.table.specs.Reading.{key_in, point_in}
-use Rattle.tree.specs.Nodes.{bare}
+use Rattle.table.specs.Reading.{point_in}
+use Rattle.table.specs.Keys.{key_in}
+use Rattle.table.specs.Nodes.{bare}
 use Rattle.grow.specs.Grown.{Inserted}
 use Rattle.grow.proofs.Leaves.{root-within, spares-within, some-spare, next-within, leaf-before, leaf-after}
 use Rattle.grow.proofs.leaf.add_leaf.Goals as goal

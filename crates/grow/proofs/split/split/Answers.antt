@@ -1,6 +1,7 @@
 use Rattle.std.proofs.Common.{◌<◌, sym, subst}
 use Rattle.table.specs.Kids.{kids_of}
-use Rattle.table.specs.Reading.{key_in, kept_in}
+use Rattle.table.specs.Reading.{kept_in}
+use Rattle.table.specs.Keys.{key_in}
 use Rattle.grow.proofs.Splits.{p-within, q-within, p-off, q-off, rights-sound, both-sound, split_done}
 use Rattle.grow.proofs.split.split.Goals as goal
 

@@ -1,7 +1,8 @@
 use Rattle.std.proofs.Common.{◌≡◌, false, sym, subst}
 use Rattle.plain.specs.Points.{FitPoint}
 use Rattle.plain.specs.Set.{put, stands}
-use Rattle.table.specs.Reading.{key_in, point_in}
+use Rattle.table.specs.Reading.{point_in}
+use Rattle.table.specs.Keys.{key_in}
 use Rattle.tree.specs.Standing.{forest_of, points_of, Standing, Ruled}
 use Rattle.grow.specs.Planted.{Planted}
 use Rattle.grow.proofs.Stands.{spares-in, spares-once, some-spare, empty, one-tree, enough, ready, low, stands_on, rules-on, any-height}

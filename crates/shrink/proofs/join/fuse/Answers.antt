@@ -1,6 +1,7 @@
 use Rattle.std.proofs.Common.{[], ◌∷◌, length, ap, arith}
 use Rattle.table.specs.Kids.{kids_of}
-use Rattle.table.specs.Reading.{key_in, kept_in}
+use Rattle.table.specs.Reading.{kept_in}
+use Rattle.table.specs.Keys.{key_in}
 use Rattle.table.proofs.Cases.{few}
 use Rattle.shrink.proofs.Basics.{seated-at, sounds-at, seated-sounds}
 use Rattle.shrink.proofs.Joins.{within-l, within-r, count-l, count-r, all_are, all-parts, all-some, left-sounds, left-off, one-sounds, give-within, give-apart, give-room, fused}

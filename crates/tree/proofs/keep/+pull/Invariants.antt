@@ -1,4 +1,4 @@
 use Rattle.tree.proofs.keep.+pull.Given as goal
 
 abbrev pub decreases-pull : goal.decreases-pull
-decreases-pull g l = l.height
+decreases-pull g l = l.tree.height

@@ -1,4 +1,4 @@
 use Rattle.tree.proofs.keep.+push.Given as goal
 
 abbrev pub decreases-push : goal.decreases-push
-decreases-push g l = l.height
+decreases-push g l = l.tree.height

@@ -1,4 +1,4 @@
 use Rattle.tree.proofs.keep.+weigh.Given as goal
 
 abbrev pub decreases-weigh : goal.decreases-weigh
-decreases-weigh g l = l.height
+decreases-weigh g l = l.tree.height

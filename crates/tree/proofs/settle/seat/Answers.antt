@@ -11,12 +11,12 @@ pick_child-i-requires g c = record { within = trees-within g.K.Kind.meaning c.ar
 
 pub push-requires : goal.push-requires
 push-requires g c =
-    subst (λ q. Sound (length c.args.nodes.now) c.args.height (tree_at g.K.Kind.meaning c.args.nodes.now c.args.height q)) (sym c.at.ensures)
+    subst (λ q. Sound (length c.args.nodes.now) c.args.height (tree_at g.K.Kind.meaning c.args.nodes.now c.args.height q)) (sym c.at-root.ensures)
     (tree-sound g.K.Kind.meaning c.args.nodes.now c.args.height (kids_of c.args.trees) c.requires.sounds c.pick_child-i.result c.pick_child-i.ensures.below)
 
 pub returns : goal.returns
 returns g c =
     let x = point_in g.K.Kind.meaning c.args.x in
     seated-some g.K.Kind.meaning c.args.nodes.now c.push.new.nodes c.args.height (kids_of c.args.trees) c.requires.sounds x c.pick_child-i.result c.pick_child-i.ensures.below
-    (c.pick_child-i.ensures.is ∙ ap (λ k. pick_at g.K.Kind.meaning c.args.nodes.now k (kids_of c.args.trees)) c.key_of.ensures)
-    (subst (λ q. Became g.K.Kind.meaning c.args.nodes.now c.push.new.nodes c.args.height q (push g.K.Kind.meaning c.args.height x (tree_at g.K.Kind.meaning c.args.nodes.now c.args.height q))) c.at.ensures c.push.ensures)
+    (c.pick_child-i.ensures.is ∙ ap (λ k. pick_at g.K.Kind.meaning c.args.nodes.now k (kids_of c.args.trees)) c.key.ensures)
+    (subst (λ q. Became g.K.Kind.meaning c.args.nodes.now c.push.new.nodes c.args.height q (push g.K.Kind.meaning c.args.height x (tree_at g.K.Kind.meaning c.args.nodes.now c.args.height q))) c.at-root.ensures c.push.ensures)
