@@ -7,15 +7,16 @@ use Rattle.kinds.specs.Meaning.{Meaning}
 use Rattle.plain.specs.Windows.{later}
 use Rattle.table.specs.declared.node.Node.{Node}
 use Rattle.tree.specs.Places.{key_at, key_of_node}
-use Rattle.walk.specs.declared.entries.Entry.{Entry}
+use Rattle.table.specs.declared.subtree.Subtree.{Subtree}
 use Rattle.walked.specs.Walk.{starts_by, starts_from, reaches_right, open_of}
 use Rattle.trees.specs.Tree.{grow, key_of}
 use Rattle.table.specs.Reading.{tree_at}
 use Rattle.tree.proofs.Picks.{key-tree}
-use Rattle.walk.specs.Entries.{entry, tree_of, trees_of, reaches_at, open_entries}
+use Rattle.walk.specs.Entries.{entry, trees_of, reaches_at, open_entries}
+use Rattle.table.specs.Reading.{tree_of}
 
 module _ {C W R : Type 0} (m : Meaning C W R) (ns : List (Node C R)) (h : ℕ) (l u : C) (ks : List ℕ) where
-  abbrev joined : ℕ → List Entry
+  abbrev joined : ℕ → List Subtree
   joined i = open_entries m ns h l u (drop i ks)
 
   pub open-start : (i : ℕ) → length ks ≤ i → (joined i ≡ []) × (true ≡ reaches_at m ns l (drop i ks))

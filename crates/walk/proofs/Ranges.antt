@@ -6,14 +6,13 @@ use Rattle.std.specs.Option.{option_to_list}
 use Rattle.std.specs.List.{flat_map}
 use Rattle.std.proofs.lemmas.List.{set-append_right, take_more, take_all, drop_all, drop_more, take-append-le}
 use Rattle.std.proofs.lemmas.List.Elements.{filter-append}
-use Rattle.std.proofs.lemmas.Bool.{true≢false}
 use Rattle.kinds.specs.Meaning.{Meaning}
 use Rattle.plain.specs.declared.point.Point.{Point}
 use Rattle.plain.specs.Windows.{inside, reaches, matches}
 use Rattle.trees.specs.Tree.{Tree, kept_by}
 use Rattle.walked.specs.Walk.{leads_on, kept_at}
 use Rattle.walk.specs.Lists.{filled, noted}
-use Rattle.walk.specs.declared.entries.Entry.{Entry}
+use Rattle.table.specs.declared.subtree.Subtree.{Subtree}
 use Rattle.walk.specs.Entries.{pile}
 
 -- ---- lists that are filled
@@ -108,21 +107,16 @@ module _ {X : Type 0} where
       go true e = listing-more all rest rest' was now n x p e
       go false e = listing-same all rest rest' was now n p e
 
--- a node that leads on keeps a point that reaches the threshold
-pub leading : {C W R : Type 0} (m : Meaning C W R) (w : W) (b : Bool) (x : Point C W) → leads_on m w (cond b (Some x) None) ≡ true → (cond b (Some x) None ≡ Some x) × (reaches m x.weight w ≡ true)
-leading m w true x e = (refl, e)
-leading m w false x e = absurd (true≢false (sym e))
-
 pub at_most_one : (b : Bool) (n : ℕ) → cond b (n + 1) n ≤ n + 1
 at_most_one true n = omega arith
 at_most_one false n = omega arith
 
 -- the entry on top, and those below it
-pub pile-top : (es : List Entry) (d : ℕ) → 0 < d → d ≤ length es → (z : Entry) → pile es d ≡ get_or es (d - 1) z ∷ pile es (d - 1)
+pub pile-top : (es : List Subtree) (d : ℕ) → 0 < d → d ≤ length es → (z : Subtree) → pile es d ≡ get_or es (d - 1) z ∷ pile es (d - 1)
 pile-top es d some few z =
     let e : d ≡ d - 1 + 1 = omega arith in
     let w : d - 1 < length es = omega arith in
     ap (pile es) e ∙ ap reverse (take_more es (d - 1) z w) ∙ reverse-append (take (d - 1) es) (get_or es (d - 1) z ∷ [])
 
-pub pile-long : (es : List Entry) (d : ℕ) → d ≤ length es → length (pile es d) ≡ d
+pub pile-long : (es : List Subtree) (d : ℕ) → d ≤ length es → length (pile es d) ≡ d
 pile-long es d few = omega (arith, length-reverse (take d es), length-take d es)

@@ -1,42 +1,29 @@
-// Nodes that a walk has yet to go to, kept as a stack: the entry that joined last is taken first.
+// Trees that a walk has yet to go to, kept as a stack: the entry that joined last is taken first.
 ghost use Rattle.std.specs.Prelude.{◌≡◌, ◌+◌, ◌<◌, ◌≤◌, not, ◌∷◌, ◌++◌, length};
 ghost use Rattle.std.specs.List.{AllByRecursion};
 ghost use Rattle.plain.specs.Windows.{later};
 ghost use Rattle.table.specs.Kids.{kids_of};
-ghost use Rattle.walk.specs.Entries.{pile, entry, open_entries};
+ghost use Rattle.walk.specs.Entries.{pile, open_entries};
 
 use kinds::Kind;
 use plain::is_later;
 use table::children::Children;
 use table::node::{Node, read};
-
-// A node, by its place and its height in the tree.
-#[derive(Clone, Copy)]
-pub struct Entry {
-    pub place: u16,
-    pub height: u8,
-}
+use table::subtree::Subtree;
 
 // Puts an entry on top of the first `depth`.
-fn put_entry(entries: &mut [Entry], depth: usize, place: u16, height: u8)
+fn put_entry(entries: &mut [Subtree], depth: usize, entry: Subtree)
     requires { depth < length entries.old }
-    ensures { pile entries.new (depth + 1) ≡ entry place height ∷ pile entries.old depth }
+    ensures { pile entries.new (depth + 1) ≡ entry ∷ pile entries.old depth }
 {
-    entries[depth] = Entry { place, height };
+    entries[depth] = entry;
 }
 
-// Whether a coordinate is not later than `u`.
-fn starts_by<K: Kind>(at: K::Coordinate, u: K::Coordinate) -> bool
-    ensures { result ≡ not (later K.Kind.meaning at u) }
+// Whether one coordinate is not later than another.
+fn is_by<K: Kind>(a: K::Coordinate, b: K::Coordinate) -> bool
+    ensures { result ≡ not (later K.Kind.meaning a b) }
 {
-    !is_later::<K>(at, u)
-}
-
-// Whether a coordinate is not earlier than `l`.
-fn starts_from<K: Kind>(at: K::Coordinate, l: K::Coordinate) -> bool
-    ensures { result ≡ not (later K.Kind.meaning l at) }
-{
-    !is_later::<K>(l, at)
+    !is_later::<K>(a, b)
 }
 
 // Puts the children that are open to a window on top, from the right, and says how many entries
@@ -48,7 +35,7 @@ pub fn put_open<K: Kind>(
     height: u8,
     l: K::Coordinate,
     u: K::Coordinate,
-    entries: &mut [Entry],
+    entries: &mut [Subtree],
     depth: usize,
 ) -> usize
     requires within { AllByRecursion (λ q. q < length nodes.now) (kids_of children) }
@@ -58,16 +45,14 @@ pub fn put_open<K: Kind>(
 {
     let mut top = depth;
     let mut reaching = true;
-    let mut i = children.len();
-    while i > 0 {
-        i -= 1;
-        let child = children.at(i);
-        let at = read(nodes, child).own.at;
-        if starts_by::<K>(at, u) & reaching {
-            put_entry(entries, top, child, height);
+    for i in (0..children.len()).rev() {
+        let root = children.at(i);
+        let at = read(nodes, root).own.at;
+        if is_by::<K>(at, u) & reaching {
+            put_entry(entries, top, Subtree { root, height });
             top += 1;
         }
-        reaching = starts_from::<K>(at, l);
+        reaching = is_by::<K>(l, at);
     }
     top
 }

@@ -5,7 +5,7 @@ use Rattle.table.specs.Kids.{kids_of}
 use Rattle.walk.specs.Entries.{pile, entry, reaches_at, open_entries}
 use Rattle.walk.proofs.Opens.{open-start, open_more, open-same, reaches-next, joined-few}
 use Rattle.walk.proofs.entries.put_open.Goals as goal
-use Rattle.walk.proofs.entries.put_open.Goals.{then-starts_by-reaching, else-starts_by-reaching}
+use Rattle.walk.proofs.entries.put_open.Goals.{then-is_by-reaching, else-is_by-reaching}
 
 pub loop-i-init : goal.loop-i-init
 loop-i-init g c =
@@ -19,22 +19,22 @@ loop-i-init g c =
 pub read-at-requires : goal.read-at-requires
 read-at-requires g c =
     let lt : (c.loop-i.i - 1) < length (kids_of c.args.children) = omega (arith, c.loop-i.invariant.0, c.loop-i-test.true) in
-    subst (λ q. q < length c.args.nodes.now) (sym c.at-child.ensures) (All-get_or (λ q. q < length c.args.nodes.now) (kids_of c.args.children) (c.loop-i.i - 1) 0 lt c.requires.within)
+    subst (λ q. q < length c.args.nodes.now) (sym c.at-root.ensures) (All-get_or (λ q. q < length c.args.nodes.now) (kids_of c.args.children) (c.loop-i.i - 1) 0 lt c.requires.within)
 
 pub put_entry-requires : goal.put_entry-requires
 put_entry-requires g c =
     let next : c.loop-i.i ≡ (c.loop-i.i - 1) + 1 = omega (arith, c.loop-i-test.true) in
     let lt : (c.loop-i.i - 1) < length (kids_of c.args.children) = omega (arith, c.loop-i.invariant.0, c.loop-i-test.true) in
-    let is = subst (λ q. slice_get c.args.nodes.now q ≡ Some c.read-at.result) c.at-child.ensures c.read-at.ensures in
-    let e = open_more g.K.Kind.meaning c.args.nodes.now c.args.height c.args.l c.args.u (kids_of c.args.children) c.loop-i.i (c.loop-i.i - 1) next lt c.read-at.result is c.loop-i.reaching c.loop-i.invariant.3 (ap (λ b. b && c.loop-i.reaching) (sym c.starts_by.ensures) ∙ c.if-starts_by-reaching.true) in
+    let is = subst (λ q. slice_get c.args.nodes.now q ≡ Some c.read-at.result) c.at-root.ensures c.read-at.ensures in
+    let e = open_more g.K.Kind.meaning c.args.nodes.now c.args.height c.args.l c.args.u (kids_of c.args.children) c.loop-i.i (c.loop-i.i - 1) next lt c.read-at.result is c.loop-i.reaching c.loop-i.invariant.3 (ap (λ b. b && c.loop-i.reaching) (sym c.is_by.ensures) ∙ c.if-is_by-reaching.true) in
     omega (arith, ap length e, joined-few g.K.Kind.meaning c.args.nodes.now c.args.height c.args.l c.args.u (kids_of c.args.children) (c.loop-i.i - 1), c.loop-i.invariant.2, c.requires.room, c.loop-i.auto.entries)
 
 pub overflow_add-top : goal.overflow_add-top
 overflow_add-top g c =
     let next : c.loop-i.i ≡ (c.loop-i.i - 1) + 1 = omega (arith, c.loop-i-test.true) in
     let lt : (c.loop-i.i - 1) < length (kids_of c.args.children) = omega (arith, c.loop-i.invariant.0, c.loop-i-test.true) in
-    let is = subst (λ q. slice_get c.args.nodes.now q ≡ Some c.read-at.result) c.at-child.ensures c.read-at.ensures in
-    let e = open_more g.K.Kind.meaning c.args.nodes.now c.args.height c.args.l c.args.u (kids_of c.args.children) c.loop-i.i (c.loop-i.i - 1) next lt c.read-at.result is c.loop-i.reaching c.loop-i.invariant.3 (ap (λ b. b && c.loop-i.reaching) (sym c.starts_by.ensures) ∙ c.if-starts_by-reaching.true) in
+    let is = subst (λ q. slice_get c.args.nodes.now q ≡ Some c.read-at.result) c.at-root.ensures c.read-at.ensures in
+    let e = open_more g.K.Kind.meaning c.args.nodes.now c.args.height c.args.l c.args.u (kids_of c.args.children) c.loop-i.i (c.loop-i.i - 1) next lt c.read-at.result is c.loop-i.reaching c.loop-i.invariant.3 (ap (λ b. b && c.loop-i.reaching) (sym c.is_by.ensures) ∙ c.if-is_by-reaching.true) in
     let small : c.loop-i.top < length c.loop-i.entries = omega (arith, ap length e, joined-few g.K.Kind.meaning c.args.nodes.now c.args.height c.args.l c.args.u (kids_of c.args.children) (c.loop-i.i - 1), c.loop-i.invariant.2, c.requires.room, c.loop-i.auto.entries) in
     search rules
 
@@ -42,23 +42,23 @@ pub loop-i-preserved : goal.loop-i-preserved
 loop-i-preserved g c =
     let next : c.loop-i.i ≡ (c.loop-i.i - 1) + 1 = omega (arith, c.loop-i-test.true) in
     let lt : (c.loop-i.i - 1) < length (kids_of c.args.children) = omega (arith, c.loop-i.invariant.0, c.loop-i-test.true) in
-    let is = subst (λ q. slice_get c.args.nodes.now q ≡ Some c.read-at.result) c.at-child.ensures c.read-at.ensures in
-    let right : c.starts_from-reaching.result ≡ reaches_at g.K.Kind.meaning c.args.nodes.now c.args.l (drop (c.loop-i.i - 1) (kids_of c.args.children)) = c.starts_from-reaching.ensures ∙ reaches-next g.K.Kind.meaning c.args.nodes.now c.args.height c.args.l c.args.u (kids_of c.args.children) c.loop-i.i (c.loop-i.i - 1) next lt c.read-at.result is c.loop-i.reaching c.loop-i.invariant.3 in
-    elim c.if-starts_by-reaching.branch [
-      | then-starts_by-reaching w ↦
-          let e = open_more g.K.Kind.meaning c.args.nodes.now c.args.height c.args.l c.args.u (kids_of c.args.children) c.loop-i.i (c.loop-i.i - 1) next lt c.read-at.result is c.loop-i.reaching c.loop-i.invariant.3 (ap (λ b. b && c.loop-i.reaching) (sym c.starts_by.ensures) ∙ w.if-starts_by-reaching.true) in (
+    let is = subst (λ q. slice_get c.args.nodes.now q ≡ Some c.read-at.result) c.at-root.ensures c.read-at.ensures in
+    let right : c.is_by-reaching.result ≡ reaches_at g.K.Kind.meaning c.args.nodes.now c.args.l (drop (c.loop-i.i - 1) (kids_of c.args.children)) = c.is_by-reaching.ensures ∙ reaches-next g.K.Kind.meaning c.args.nodes.now c.args.height c.args.l c.args.u (kids_of c.args.children) c.loop-i.i (c.loop-i.i - 1) next lt c.read-at.result is c.loop-i.reaching c.loop-i.invariant.3 in
+    elim c.if-is_by-reaching.branch [
+      | then-is_by-reaching w ↦
+          let e = open_more g.K.Kind.meaning c.args.nodes.now c.args.height c.args.l c.args.u (kids_of c.args.children) c.loop-i.i (c.loop-i.i - 1) next lt c.read-at.result is c.loop-i.reaching c.loop-i.invariant.3 (ap (λ b. b && c.loop-i.reaching) (sym c.is_by.ensures) ∙ w.if-is_by-reaching.true) in (
             omega arith,
-            ap (λ (k : ℕ). pile c.if-starts_by-reaching.entries k) w.top-is ∙ ap (λ es. pile es (c.loop-i.top + 1)) w.entries-is ∙ w.put_entry.ensures
-                ∙ ap (λ p. entry p c.args.height ∷ pile c.loop-i.entries c.loop-i.top) c.at-child.ensures
+            ap (λ (k : ℕ). pile c.if-is_by-reaching.entries k) w.top-is ∙ ap (λ es. pile es (c.loop-i.top + 1)) w.entries-is ∙ w.put_entry.ensures
+                ∙ ap (λ p. entry p c.args.height ∷ pile c.loop-i.entries c.loop-i.top) c.at-root.ensures
                 ∙ ap (λ es. entry (get_or (kids_of c.args.children) (c.loop-i.i - 1) 0) c.args.height ∷ es) c.loop-i.invariant.1
                 ∙ ap (λ es. es ++ pile c.args.entries.now c.args.depth) (sym e),
             omega (arith, w.top-is, ap length e, c.loop-i.invariant.2),
             right,
           )
-      | else-starts_by-reaching w ↦
-          let e = open-same g.K.Kind.meaning c.args.nodes.now c.args.height c.args.l c.args.u (kids_of c.args.children) c.loop-i.i (c.loop-i.i - 1) next lt c.read-at.result is c.loop-i.reaching c.loop-i.invariant.3 (ap (λ b. b && c.loop-i.reaching) (sym c.starts_by.ensures) ∙ w.if-starts_by-reaching.false) in (
+      | else-is_by-reaching w ↦
+          let e = open-same g.K.Kind.meaning c.args.nodes.now c.args.height c.args.l c.args.u (kids_of c.args.children) c.loop-i.i (c.loop-i.i - 1) next lt c.read-at.result is c.loop-i.reaching c.loop-i.invariant.3 (ap (λ b. b && c.loop-i.reaching) (sym c.is_by.ensures) ∙ w.if-is_by-reaching.false) in (
             omega arith,
-            ap (λ (k : ℕ). pile c.if-starts_by-reaching.entries k) w.top-is ∙ ap (λ es. pile es c.loop-i.top) w.entries-is ∙ c.loop-i.invariant.1 ∙ ap (λ es. es ++ pile c.args.entries.now c.args.depth) (sym e),
+            ap (λ (k : ℕ). pile c.if-is_by-reaching.entries k) w.top-is ∙ ap (λ es. pile es c.loop-i.top) w.entries-is ∙ c.loop-i.invariant.1 ∙ ap (λ es. es ++ pile c.args.entries.now c.args.depth) (sym e),
             omega (arith, w.top-is, ap length e, c.loop-i.invariant.2),
             right,
           )
