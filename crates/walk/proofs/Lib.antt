@@ -1,3 +1,4 @@
 pub mod Opens
 pub mod Turns
 pub mod Ranges
+pub mod Visits

@@ -5,19 +5,12 @@ ghost use Rattle.walked.specs.Walk.{leads_on, visits, ranged};
 ghost use Rattle.table.specs.Reading.{point_in, point_in_any, tree_of, Sound};
 ghost use Rattle.walk.specs.Lists.{filled, noted};
 
-use crate::entries::put_open;
+use crate::entries::Pile;
 use kinds::Kind;
 use plain::{Point, is_inside, is_reaching};
 use table::node::{Node, Stored, read};
 use table::subtree::Subtree;
 use tree::search::point_of;
-
-// The nodes still to visit.
-#[derive(Clone, Copy)]
-pub struct Stack {
-    pub entries: [Subtree; 43],
-    pub depth: usize,
-}
 
 // What a node keeps, if it is not weaker than the threshold.
 fn leading<K: Kind>(
@@ -73,31 +66,20 @@ pub fn range_walk<K: Kind>(
     ensures counts { result ≡ (length (ranged K.Kind.meaning l u threshold (tree_of K.Kind.meaning nodes.now tree)), length (visits K.Kind.meaning l u threshold (tree_of K.Kind.meaning nodes.now tree))) }
     ensures list { list.new ≡ filled list.old (ranged K.Kind.meaning l u threshold (tree_of K.Kind.meaning nodes.now tree)) }
 {
-    let mut stack = Stack {
-        entries: [tree; 43],
+    let mut entries = [tree; 43];
+    let mut stack = Pile {
+        entries: &mut entries,
         depth: 1,
     };
     let mut matches = 0;
     let mut visited = 0;
-    while stack.depth > 0 {
-        let depth = stack.depth - 1;
-        let next = stack.entries[depth];
-        stack.depth = depth;
+    while let Some(next) = stack.pop() {
         visited += 1;
         let node = read(nodes, next.root);
         if let Some(x) = leading::<K>(node.kept, threshold) {
             matches = visit::<K>(x, l, u, list, matches);
             if next.height > 0 {
-                let below = next.height - 1;
-                stack.depth = put_open::<K>(
-                    nodes,
-                    node.children,
-                    below,
-                    l,
-                    u,
-                    &mut stack.entries,
-                    depth,
-                );
+                stack.push_open::<K>(nodes, node.children, next.height - 1, l, u);
             }
         }
     }

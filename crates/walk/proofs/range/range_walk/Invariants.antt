@@ -2,18 +2,19 @@ use Rattle.std.proofs.Common.{◌≡◌, ◌+◌, ◌≤◌, length}
 use Rattle.std.specs.List.{flat_map}
 use Rattle.plain.specs.Windows.{matches}
 use Rattle.walked.specs.Walk.{kept_at, leads_on}
-use Rattle.walk.specs.Entries.{pile, Rooms, AllSound, to_come}
+use Rattle.walk.specs.Entries.{Rooms, AllSound, to_come}
+use Rattle.walk.specs.Piles.{pile_of}
 use Rattle.walk.proofs.Ranges.{Listing}
 use Rattle.walk.proofs.range.range_walk.Given as goal
 
 -- what was visited and what is to come are the whole walk, and so are the points listed and those to come
-abbrev pub invariant-loop-stack : goal.invariant-loop-stack
-invariant-loop-stack g l =
+abbrev pub invariant-loop-next : goal.invariant-loop-next
+invariant-loop-next g l =
     let m = g.K.Kind.meaning in
-    let left = pile l.stack.entries l.stack.depth in
+    let left = pile_of l.stack in
     let coming = to_come m l.nodes (leads_on m l.threshold) l.l l.u left in
-    let whole = to_come m l.nodes (leads_on m l.threshold) l.l l.u (pile l.initial.stack.entries l.initial.stack.depth) in
-    (length l.stack.entries ≡ 43)
+    let whole = to_come m l.nodes (leads_on m l.threshold) l.l l.u (pile_of l.initial.stack) in
+    (length l.stack.entries.now ≡ 43)
     × (l.stack.depth ≤ 43)
     × AllSound m l.nodes left
     × Rooms left
@@ -21,5 +22,5 @@ invariant-loop-stack g l =
     × (l.matches ≤ l.visited)
     × Listing (matches m l.l l.u l.threshold (flat_map kept_at whole)) (matches m l.l l.u l.threshold (flat_map kept_at coming)) l.initial.list l.list l.matches
 
-abbrev pub decreases-loop-stack : goal.decreases-loop-stack
-decreases-loop-stack g l = length (to_come g.K.Kind.meaning l.nodes (leads_on g.K.Kind.meaning l.threshold) l.l l.u (pile l.stack.entries l.stack.depth))
+abbrev pub decreases-loop-next : goal.decreases-loop-next
+decreases-loop-next g l = length (to_come g.K.Kind.meaning l.nodes (leads_on g.K.Kind.meaning l.threshold) l.l l.u (pile_of l.stack))

@@ -1,7 +1,8 @@
 use Rattle.std.proofs.Common.{◌≡◌, ◌+◌, ◌≤◌, ◌++◌, length, drop}
 use Rattle.table.specs.Kids.{kids_of}
-use Rattle.walk.specs.Entries.{pile, reaches_at, open_entries}
-use Rattle.walk.proofs.entries.put_open.Given as goal
+use Rattle.walk.specs.Entries.{reaches_at, open_entries}
+use Rattle.walk.specs.Piles.{pile_of}
+use Rattle.walk.proofs.entries.Pile.push_open.Given as goal
 
 -- the open ones of the children from number i on have joined
 abbrev pub invariant-loop-i : goal.invariant-loop-i
@@ -10,9 +11,7 @@ invariant-loop-i g l =
     let rest = drop l.i (kids_of l.children) in
     let joined = open_entries m l.nodes l.height l.l l.u rest in
     (l.i ≤ length (kids_of l.children))
-    × (pile l.entries l.top ≡ joined ++ pile l.initial.entries l.depth)
-    × (l.top ≡ l.depth + length joined)
+    × (pile_of l.self ≡ joined ++ pile_of l.initial.self)
+    × (l.self.depth ≡ l.initial.self.depth + length joined)
+    × (length l.self.entries.now ≡ length l.initial.self.entries.now)
     × (l.reaching ≡ reaches_at m l.nodes l.l rest)
-
-abbrev pub decreases-loop-i : goal.decreases-loop-i
-decreases-loop-i g l = l.i

@@ -1,0 +1,70 @@
+use Rattle.std.proofs.Common.{◌≡◌, ◌+◌, ◌-◌, ◌<◌, ◌&&◌, List, [], ◌∷◌, ◌++◌, length, get_or, drop, Some, sym, refl, ap, ◌∙◌, subst, arith}
+use Rattle.std.specs.List.{slice_get}
+use Rattle.std.proofs.ByRecursion.{All-get_or}
+use Rattle.table.specs.Kids.{kids_of}
+use Rattle.walk.specs.Entries.{entry, reaches_at, open_entries}
+use Rattle.walk.specs.Piles.{pile_of}
+use Rattle.walk.proofs.Opens.{open-start, open_more, open-same, reaches-next, joined-few}
+use Rattle.walk.proofs.entries.Pile.push_open.Goals as goal
+use Rattle.walk.proofs.entries.Pile.push_open.Goals.{then-is_by-reaching, else-is_by-reaching}
+
+pub loop-i-init : goal.loop-i-init
+loop-i-init g c =
+    let s = open-start g.K.Kind.meaning c.args.nodes.now c.args.height c.args.l c.args.u (kids_of c.args.children) c.len-i.result (omega (arith, c.len-i.ensures)) in (
+      omega (arith, c.len-i.ensures),
+      ap (λ es. es ++ pile_of c.args.self.now) (sym s.0),
+      omega (arith, ap length s.0),
+      refl,
+      s.1,
+    )
+
+pub read-at-requires : goal.read-at-requires
+read-at-requires g c =
+    let lt : (c.loop-i.i - 1) < length (kids_of c.args.children) = omega (arith, c.loop-i.invariant.0, c.loop-i-test.true) in
+    subst (λ q. q < length c.args.nodes.now) (sym c.at-root.ensures) (All-get_or (λ q. q < length c.args.nodes.now) (kids_of c.args.children) (c.loop-i.i - 1) 0 lt c.requires.within)
+
+pub push-requires : goal.push-requires
+push-requires g c =
+    let next : c.loop-i.i ≡ (c.loop-i.i - 1) + 1 = omega (arith, c.loop-i-test.true) in
+    let lt : (c.loop-i.i - 1) < length (kids_of c.args.children) = omega (arith, c.loop-i.invariant.0, c.loop-i-test.true) in
+    let is = subst (λ q. slice_get c.args.nodes.now q ≡ Some c.read-at.result) c.at-root.ensures c.read-at.ensures in
+    let e = open_more g.K.Kind.meaning c.args.nodes.now c.args.height c.args.l c.args.u (kids_of c.args.children) c.loop-i.i (c.loop-i.i - 1) next lt c.read-at.result is c.loop-i.reaching c.loop-i.invariant.4 (ap (λ b. b && c.loop-i.reaching) (sym c.is_by.ensures) ∙ c.if-is_by-reaching.true) in
+    omega (arith, ap length e, joined-few g.K.Kind.meaning c.args.nodes.now c.args.height c.args.l c.args.u (kids_of c.args.children) (c.loop-i.i - 1), c.loop-i.invariant.2, c.loop-i.invariant.3, c.requires.room)
+
+pub loop-i-preserved : goal.loop-i-preserved
+loop-i-preserved g c =
+    let next : c.loop-i.i ≡ (c.loop-i.i - 1) + 1 = omega (arith, c.loop-i-test.true) in
+    let lt : (c.loop-i.i - 1) < length (kids_of c.args.children) = omega (arith, c.loop-i.invariant.0, c.loop-i-test.true) in
+    let is = subst (λ q. slice_get c.args.nodes.now q ≡ Some c.read-at.result) c.at-root.ensures c.read-at.ensures in
+    let right : c.is_by-reaching.result ≡ reaches_at g.K.Kind.meaning c.args.nodes.now c.args.l (drop (c.loop-i.i - 1) (kids_of c.args.children)) = c.is_by-reaching.ensures ∙ reaches-next g.K.Kind.meaning c.args.nodes.now c.args.height c.args.l c.args.u (kids_of c.args.children) c.loop-i.i (c.loop-i.i - 1) next lt c.read-at.result is c.loop-i.reaching c.loop-i.invariant.4 in
+    elim c.if-is_by-reaching.branch [
+      | then-is_by-reaching w ↦
+          let e = open_more g.K.Kind.meaning c.args.nodes.now c.args.height c.args.l c.args.u (kids_of c.args.children) c.loop-i.i (c.loop-i.i - 1) next lt c.read-at.result is c.loop-i.reaching c.loop-i.invariant.4 (ap (λ b. b && c.loop-i.reaching) (sym c.is_by.ensures) ∙ w.if-is_by-reaching.true) in (
+            omega arith,
+            ap pile_of w.self-is ∙ w.push.ensures.pile
+                ∙ ap (λ p. entry p c.args.height ∷ pile_of c.loop-i.self) c.at-root.ensures
+                ∙ ap (λ es. entry (get_or (kids_of c.args.children) (c.loop-i.i - 1) 0) c.args.height ∷ es) c.loop-i.invariant.1
+                ∙ ap (λ es. es ++ pile_of c.args.self.now) (sym e),
+            omega (arith, ap (λ p. p.depth) w.self-is, w.push.ensures.depth, ap length e, c.loop-i.invariant.2),
+            ap (λ p. length p.entries.now) w.self-is ∙ w.push.ensures.places ∙ c.loop-i.invariant.3,
+            right,
+          )
+      | else-is_by-reaching w ↦
+          let e = open-same g.K.Kind.meaning c.args.nodes.now c.args.height c.args.l c.args.u (kids_of c.args.children) c.loop-i.i (c.loop-i.i - 1) next lt c.read-at.result is c.loop-i.reaching c.loop-i.invariant.4 (ap (λ b. b && c.loop-i.reaching) (sym c.is_by.ensures) ∙ w.if-is_by-reaching.false) in (
+            omega arith,
+            ap pile_of w.self-is ∙ c.loop-i.invariant.1 ∙ ap (λ es. es ++ pile_of c.args.self.now) (sym e),
+            omega (arith, ap (λ p. p.depth) w.self-is, ap length e, c.loop-i.invariant.2),
+            ap (λ p. length p.entries.now) w.self-is ∙ c.loop-i.invariant.3,
+            right,
+          )
+    ]
+
+drop-zero : {X : Type 0} (xs : List X) → drop 0 xs ≡ xs
+drop-zero [] = refl
+drop-zero (x ∷ xs) = refl
+
+pub returns : goal.returns
+returns g c =
+    let zero : c.loop-i.i ≡ 0 = omega (arith, c.loop-i-test.false) in
+    let all : open_entries g.K.Kind.meaning c.args.nodes.now c.args.height c.args.l c.args.u (drop c.loop-i.i (kids_of c.args.children)) ≡ open_entries g.K.Kind.meaning c.args.nodes.now c.args.height c.args.l c.args.u (kids_of c.args.children) = ap (λ k. open_entries g.K.Kind.meaning c.args.nodes.now c.args.height c.args.l c.args.u (drop k (kids_of c.args.children))) zero ∙ ap (open_entries g.K.Kind.meaning c.args.nodes.now c.args.height c.args.l c.args.u) (drop-zero (kids_of c.args.children)) in
+    record { pile = c.loop-i.invariant.1 ∙ ap (λ es. es ++ pile_of c.args.self.now) all; depth = c.loop-i.invariant.2 ∙ ap (λ es. c.args.self.now.depth + length es) all; places = c.loop-i.invariant.3 }
