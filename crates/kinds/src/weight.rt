@@ -12,13 +12,7 @@ const LARGEST_FIT: u32 = 0x7F7F_FFFF;
 pub fn by_size(a: f32, b: f32) -> Ordering
     ensures { result ≡ by_size a b }
 {
-    if a < b {
-        Ordering::Less
-    } else if b < a {
-        Ordering::Greater
-    } else {
-        Ordering::Equal
-    }
+    a.partial_cmp(&b).unwrap_or(Ordering::Equal)
 }
 
 // A pattern from 00000000 to 7F7FFFFF: finite and without a sign.
