@@ -10,6 +10,7 @@ use Rattle.std.specs.Float.Ieee.Positive.{num, den, den_pos, through as fraction
 use Rattle.std.specs.Ordering.{is_le, ordering_reverse}
 use Rattle.kinds.specs.Order.{by_number, Preorder}
 use Rattle.kinds.specs.Weight.{pattern, weight_of, fit_weight, by_size}
+use Rattle.kinds.specs.Kinds.{residuals}
 use Rattle.kinds.specs.Meaning.{Meaning, Occurs, Second, Numbering}
 use Rattle.kinds.specs.Orders.{number-le, le-number, number-total, number-turned, among, backward}
 
@@ -84,3 +85,8 @@ module _ {C : Type 0} (order : C → C → Ordering) (fit : C → Float → Bool
   -- a weight that is its own number
   pub own-numbers : Numbering smallest (λ w. w)
   own-numbers = record { small = fine; ranks = λ c d v w h k. refl }
+
+-- the second law of residuals, whichever are strong
+pub residual-weights : (large_first : Bool) → Second (residuals large_first)
+residual-weights true = larger-first by_number (λ c w. fit_weight w) (λ c w h. h)
+residual-weights false = smaller-first by_number (λ c w. fit_weight w) (λ c w h. h)

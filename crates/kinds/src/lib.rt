@@ -4,9 +4,8 @@
 
 mod code;
 mod kind;
-mod large;
 mod residual;
-mod small;
+mod residuals;
 mod station;
 mod summed;
 mod validity;
@@ -14,9 +13,8 @@ mod weight;
 
 pub use code::Code;
 pub use kind::Kind;
-pub use large::Large;
 pub use residual::Residual;
-pub use small::Small;
+pub use residuals::{Large, Residuals, Small};
 pub use station::Station;
 pub use summed::SummedKind;
 pub use validity::Validity;

@@ -1,8 +1,6 @@
-// Residuals of which the small ones are strong.
-ghost use Rattle.kinds.specs.Kinds.{small};
-ghost use Rattle.kinds.specs.Order.{by_number};
-ghost use Rattle.kinds.specs.Weight.{fit_weight};
-ghost use Rattle.kinds.specs.Weights.{smaller-first};
+// Residuals by epoch, of which either the large or the small ones are strong.
+ghost use Rattle.kinds.specs.Kinds.{residuals};
+ghost use Rattle.kinds.specs.Weights.{residual-weights};
 ghost use Rattle.std.proofs.Common.{rules};
 
 use crate::kind::Kind;
@@ -12,27 +10,35 @@ use crate::weight::{by_size, fit_weight, pattern_of, weight_of};
 use std::cmp::Ordering;
 
 #[derive(Drop)]
-pub struct Small;
+pub struct Residuals<const LARGE_FIRST: bool>;
 
-impl Kind for Small {
+pub type Large = Residuals<true>;
+
+pub type Small = Residuals<false>;
+
+impl<const LARGE_FIRST: bool> Kind for Residuals<LARGE_FIRST> {
     type Coordinate = u64;
 
     type Weight = f32;
 
     type Recorded = u32;
 
-    ghost meaning = { small };
+    ghost meaning = { residuals LARGE_FIRST };
 
     ghost first = { Prim.search rules };
 
-    ghost second = { smaller-first by_number (λ c w. fit_weight w) (λ c w h. h) };
+    ghost second = { residual-weights LARGE_FIRST };
 
     fn order(a: u64, b: u64) -> Ordering {
         a.cmp(&b)
     }
 
     fn strength(a: f32, b: f32) -> Ordering {
-        by_size(a, b)
+        if LARGE_FIRST {
+            by_size(b, a)
+        } else {
+            by_size(a, b)
+        }
     }
 
     fn is_fit(at: u64, weight: f32) -> bool {
