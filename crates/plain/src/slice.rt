@@ -1,7 +1,5 @@
 // The plain set read from a slice of points, one after the other: the definitions as they run.
 ghost use Rattle.std.specs.Prelude.{◌≡◌, ◌&&◌, ◌++◌, length, drop};
-ghost use Rattle.std.specs.Float.Ieee.{add};
-ghost use Rattle.std.specs.Float.{binary32};
 ghost use Rattle.plain.specs.Set.{weight_at};
 ghost use Rattle.plain.specs.Windows.{later, inside, reaches, window, matches, firsts, total};
 
@@ -48,19 +46,10 @@ pub fn find<K: Kind>(
 ) -> Option<K::Weight>
     ensures { result ≡ weight_at K.Kind.meaning key points.now }
 {
-    for p in points {
-        if key_order::<K>(key, p.key).is_eq() {
-            return Some(p.weight);
-        }
-    }
-    None
-}
-
-// The sum so far and one number more.
-fn plus<K: SummedKind>(sum: f32, weight: K::Weight) -> f32
-    ensures { result ≡ add binary32 sum (K.number weight) }
-{
-    sum + K::number_of(weight)
+    points
+        .iter()
+        .find(|p| key_order::<K>(key, p.key).is_eq())
+        .map(|p| p.weight)
 }
 
 // The sum of the points in a window, in their order, and how many they are.
@@ -71,15 +60,12 @@ pub fn sum_window<K: SummedKind>(
 ) -> (f32, usize)
     ensures { result ≡ (total K.number (window K.Kind.meaning l u points.now), length (window K.Kind.meaning l u points.now)) }
 {
-    let mut sum = 0.0;
-    let mut count = 0;
-    for p in points {
-        if is_inside::<K>(l, u, p.key.at) {
-            sum = plus::<K>(sum, p.weight);
-            count += 1;
-        }
-    }
-    (sum, count)
+    let inside = |p: &&Point<K::Coordinate, K::Weight>| is_inside::<K>(l, u, p.key.at);
+    let sum = points
+        .iter()
+        .filter(inside)
+        .fold(0.0, |sum, p| sum + K::number_of(p.weight));
+    (sum, points.iter().filter(inside).count())
 }
 
 // How many points match a window with a threshold.
@@ -91,13 +77,10 @@ pub fn count_matches<K: Kind>(
 ) -> usize
     ensures { result ≡ length (matches K.Kind.meaning l u threshold points.now) }
 {
-    let mut count = 0;
-    for p in points {
-        if is_match::<K>(l, u, threshold, *p) {
-            count += 1;
-        }
-    }
-    count
+    points
+        .iter()
+        .filter(|p| is_match::<K>(l, u, threshold, **p))
+        .count()
 }
 
 // Fills the list with the first points in a window, as many as it has places, and says how many.
@@ -111,6 +94,7 @@ pub fn list_first<K: Kind>(
     ensures listed { list.new ≡ firsts K.Kind.meaning (length list.old) l u points.now ++ drop result list.old }
 {
     let mut count = 0;
+    // Tried: a `for` over the points filtered and taken gets no proof in a function with a kind.
     for p in points {
         if count == list.len() {
             return count;
