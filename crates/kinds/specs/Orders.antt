@@ -3,8 +3,9 @@ use Rattle.std.specs.Prelude.{◌≡◌, ℕ, ◌≤◌, T, ◌⊎◌, refl}
 use Rattle.std.specs.declared.cmp.Ordering.TheVariants.{Less, Equal, Greater}
 use Rattle.std.specs.declared.cmp.Ordering.{Ordering}
 use Rattle.std.proofs.Common.{sym, ap, ◌∙◌, subst, inl, inr, arith}
+use Rattle.std.proofs.lemmas.Bool.{true≢false, false≢true}
 use Rattle.std.proofs.lemmas.Bool.Decides.{nat_tests}
-use Rattle.std.specs.Ordering.{is_le, ordering_reverse, ordering_then}
+use Rattle.std.specs.Ordering.{is_le, is_lt, ordering_reverse, ordering_then}
 use Rattle.kinds.specs.Order.{by_number, Preorder, IsAny}
 
 pub number-le : (a b : ℕ) → T (is_le (by_number a b)) → a ≤ b
@@ -106,12 +107,6 @@ module _ {A : Type 0} {P : A → Type 0} {o O : A → A → Ordering} (f : Preor
   }
 
 pub then_tie : (x y : Ordering) → ordering_then x y ≡ Equal → (x ≡ Equal) × (y ≡ Equal)
-then_tie Less y h = (h, absurd (apart h))
-  where
-    apart : Less ≡ Equal → ⊥
-    apart e = let z : ◌≡◌ {A = ℕ} 0 1 = cc in omega arith
+then_tie Less y h = absurd (true≢false (ap is_lt h))
 then_tie Equal y h = (refl, h)
-then_tie Greater y h = (h, absurd (apart h))
-  where
-    apart : Greater ≡ Equal → ⊥
-    apart e = let z : ◌≡◌ {A = ℕ} 0 1 = cc in omega arith
+then_tie Greater y h = absurd (false≢true (ap is_le h))

@@ -1,6 +1,7 @@
 -- Key order is total, carries over, and ties only a key with itself.
-use Rattle.std.proofs.Common.{◌≡◌, ℕ, true, false, T, Ordering, Less, Equal, Greater, sym, refl, ap, ◌∙◌, subst, arith}
+use Rattle.std.proofs.Common.{◌≡◌, true, false, T, Ordering, Less, Equal, Greater, sym, refl, ap, ◌∙◌, subst}
 use Rattle.std.specs.Ordering.{is_le, is_eq, is_lt, ordering_reverse}
+use Rattle.std.proofs.lemmas.Bool.{true≢false, false≢true}
 use Rattle.kinds.specs.Order.{Preorder, IsAny}
 use Rattle.kinds.specs.Meaning.{Meaning, First}
 use Rattle.kinds.specs.Orders.{and_then, through, by_number_lem, then_tie, number-tie}
@@ -10,23 +11,23 @@ use Rattle.plain.specs.Points.{key_order, Before}
 -- ---- answers
 pub lt-less : (o : Ordering) → is_lt o ≡ true → o ≡ Less
 lt-less Less h = refl
-lt-less Equal h = absurd (let z : ◌≡◌ {A = ℕ} 0 1 = cc in omega arith)
-lt-less Greater h = absurd (let z : ◌≡◌ {A = ℕ} 0 1 = cc in omega arith)
+lt-less Equal h = absurd (false≢true h)
+lt-less Greater h = absurd (false≢true h)
 
 pub eq-equal : (o : Ordering) → is_eq o ≡ true → o ≡ Equal
-eq-equal Less h = absurd (let z : ◌≡◌ {A = ℕ} 0 1 = cc in omega arith)
+eq-equal Less h = absurd (false≢true h)
 eq-equal Equal h = refl
-eq-equal Greater h = absurd (let z : ◌≡◌ {A = ℕ} 0 1 = cc in omega arith)
+eq-equal Greater h = absurd (false≢true h)
 
 pub neither : (o : Ordering) → is_lt o ≡ false → is_eq o ≡ false → o ≡ Greater
-neither Less h k = absurd (let z : ◌≡◌ {A = ℕ} 0 1 = cc in omega arith)
-neither Equal h k = absurd (let z : ◌≡◌ {A = ℕ} 0 1 = cc in omega arith)
+neither Less h k = absurd (true≢false h)
+neither Equal h k = absurd (true≢false k)
 neither Greater h k = refl
 
 itself : (o : Ordering) → o ≡ ordering_reverse o → o ≡ Equal
-itself Less h = absurd (let z : ◌≡◌ {A = ℕ} 0 1 = cc in omega arith)
+itself Less h = absurd (true≢false (ap is_lt h))
 itself Equal h = refl
-itself Greater h = absurd (let z : ◌≡◌ {A = ℕ} 0 1 = cc in omega arith)
+itself Greater h = absurd (false≢true (ap is_lt h))
 
 at_most : (o : Ordering) → T (is_le o) → (o ≡ Equal → ⊥) → o ≡ Less
 at_most Less h k = refl
@@ -52,10 +53,7 @@ module _ {C W R : Type 0} (m : Meaning C W R) (law : First m) where
   before-carries a b c h k =
       at_most (key_order m a c)
       (keys.carries a b c tt tt tt (subst (λ o. T (is_le o)) (sym h) tt) (subst (λ o. T (is_le o)) (sym k) tt))
-      (λ e.
-      let z : Greater ≡ Less = sym (ap ordering_reverse h) ∙ sym (turned a b) ∙ ap (key_order m b) (tie a c e) ∙ k in
-      let w : ◌≡◌ {A = ℕ} 0 1 = cc in
-      omega arith)
+      (λ e. false≢true (ap is_lt (sym (ap ordering_reverse h) ∙ sym (turned a b) ∙ ap (key_order m b) (tie a c e) ∙ k)))
 
   -- what is not before and is not the same is after
   pub after : (a b : Key C) → is_lt (key_order m a b) ≡ false → is_eq (key_order m a b) ≡ false → Before m b a

@@ -1,10 +1,9 @@
 -- The laws of the plain set and of sums, from the laws of the kind.
-use Rattle.std.proofs.Common.{◌≡◌, ℕ, Bool, true, false, cond, T, List, [], ◌∷◌, is_some, Some, None, Option, Ordering, Less, Greater, sym, refl, ap, ◌∙◌, inl, inr, arith}
-use lib.Ieee.{Float, nan, inf, fin, le}
-use Rattle.std.specs.Ordering.{is_eq, ordering_reverse}
+use Rattle.std.proofs.Common.{◌≡◌, Bool, true, false, cond, T, List, [], ◌∷◌, is_some, Some, None, Option, Ordering, Less, sym, refl, ap, ◌∙◌, inl}
+use lib.Ieee.{Float, nan, inf, fin}
+use Rattle.std.specs.Ordering.{is_eq, is_lt, ordering_reverse}
 use Rattle.std.specs.List.{AllByRecursion}
-use Rattle.std.proofs.ByRecursion.{All-weaker, all_kept_by}
-use Rattle.std.proofs.lemmas.Bool.{true≢false}
+use Rattle.std.proofs.lemmas.Bool.{true≢false, false≢true}
 use Rattle.kinds.specs.Meaning.{Meaning, First, Second, Numbering}
 use Rattle.kinds.specs.Orders.{among, and_then, through, then_tie}
 use Rattle.kinds.specs.Weights.{plain, fit-plain}
@@ -14,8 +13,9 @@ use Rattle.plain.specs.declared.point.Key.{Key}
 use Rattle.plain.specs.declared.point.Point.{Point}
 use Rattle.plain.specs.Points.{key_order, Before, FitPoint}
 use Rattle.plain.specs.Set.{Rising, AllFit, weight_at}
-use Rattle.plain.specs.Windows.{window, One, Covered}
+use Rattle.plain.specs.Windows.{window}
 use Rattle.plain.specs.Laws.{Orders, Keeps, Finds, SetLaws, SumsGrow}
+use Rattle.plain.proofs.Each.{each_weaker, each_kept}
 use Rattle.plain.proofs.Keys.{keys, tie, turned}
 use Rattle.plain.proofs.Sets.{rising-kept, rising-put, rising-remove, rising-reweigh, rising-push, after-all, fit-put, fit-remove, fit-reweigh, length-put, length-remove, length-reweigh, weight-put, weight-remove, weight-reweigh}
 
@@ -64,7 +64,7 @@ module _ {C W R : Type 0} (m : Meaning C W R) (law : First m) where
 
   -- ---- sums
   not-both : (x y : Ordering) → y ≡ ordering_reverse x → x ≡ Less → y ≡ Less → ⊥
-  not-both x y e h k = let z : Greater ≡ Less = sym (ap ordering_reverse h) ∙ sym e ∙ k in let w : ◌≡◌ {A = ℕ} 0 1 = cc in omega arith
+  not-both x y e h k = false≢true (ap is_lt (sym (ap ordering_reverse h) ∙ sym e ∙ k))
 
   never : (a b : Key C) → Before m a b → Before m b a → ⊥
   never a b h k = not-both (key_order m a b) (key_order m b a) (turned m law a b) h k
@@ -77,20 +77,11 @@ module _ {C W R : Type 0} (m : Meaning C W R) (law : First m) where
     key_of p = p.key
 
     counted : (ps : List (Point C W)) → AllFit m ps → AllByRecursion (λ p. T (nonneg (number_at p))) ps
-    counted ps f = All-weaker (FitPoint m) _ (λ p h. plain-nonneg (number_at p) (fit-plain (number_at p) (numbering.small p.key.at p.weight h))) ps f
+    counted ps f = each_weaker (FitPoint m) _ (λ p h. plain-nonneg (number_at p) (fit-plain (number_at p) (numbering.small p.key.at p.weight h))) ps f
 
     sorted : (ps : List (Point C W)) → Rising m ps → grown.Sorted key_of number_at (Before m) never ps
     sorted [] h = tt
     sorted (p ∷ ps) h = (h.0, sorted ps h.1)
-
-    one : (p : Point C W) (qs : List (Point C W)) → One (λ q. (p.key ≡ q.key) × T (le (number_at p) (number_at q))) qs → grown.One key_of number_at (grown.Covers key_of number_at p) qs
-    one p [] o = o
-    one p (q ∷ qs) (inl o) = inl o
-    one p (q ∷ qs) (inr o) = inr (one p qs o)
-
-    covered : (ps qs : List (Point C W)) → Covered number ps qs → grown.AllCovered key_of number_at ps qs
-    covered [] qs c = tt
-    covered (p ∷ ps) qs c = (one p qs c.0, covered ps qs c.1)
 
     pub sums-grow : SumsGrow m number
     sums-grow ps qs l u a b rp rq fp fq c =
@@ -98,5 +89,5 @@ module _ {C W R : Type 0} (m : Meaning C W R) (law : First m) where
         let ys = window m a b qs in
         grown.sums-grow key_of number_at (Before m) never xs ys
         (sorted xs (rising-kept m _ ps rp)) (sorted ys (rising-kept m _ qs rq))
-        (counted xs (all_kept_by _ (FitPoint m) ps fp)) (counted ys (all_kept_by _ (FitPoint m) qs fq))
-        (covered xs ys c)
+        (counted xs (each_kept _ (FitPoint m) ps fp)) (counted ys (each_kept _ (FitPoint m) qs fq))
+        c

@@ -2,13 +2,13 @@
 use Rattle.std.proofs.Common.{◌≡◌, suc, Bool, true, false, cond, T, List, [], ◌∷◌, ◌++◌, length, is_some, Some, None, filter, Option, sym, refl, ap, ◌∙◌, subst}
 use Rattle.std.specs.Ordering.{is_lt, is_eq}
 use Rattle.std.specs.List.{AllByRecursion}
-use Rattle.std.proofs.ByRecursion.{All-weaker, all_kept_by}
 use Rattle.std.proofs.lemmas.Bool.{true≢false, not-false, cond_both, cond-true, cond-false}
 use Rattle.kinds.specs.Meaning.{Meaning, First}
 use Rattle.plain.specs.declared.point.Key.{Key}
 use Rattle.plain.specs.declared.point.Point.{Point}
 use Rattle.plain.specs.Points.{key_order, Before, FitPoint}
 use Rattle.plain.specs.Set.{Rising, AllFit, weight_at, stands, put, remove, reweigh, not_after_last}
+use Rattle.plain.proofs.Each.{each_weaker, each_kept}
 use Rattle.plain.proofs.Keys.{tie, same, before-carries, after, apart, lt-less, eq-equal}
 
 -- a filter keeps what rises
@@ -16,7 +16,7 @@ pub rising-kept : {C W R : Type 0} (m : Meaning C W R) (test : Point C W → Boo
 rising-kept m test [] h = tt
 rising-kept m test (p ∷ ps) h =
     elim (test p) as (λ b. Rising m (cond b (p ∷ filter test ps) (filter test ps))) [
-      | true ↦ (all_kept_by test _ ps h.0, rising-kept m test ps h.1)
+      | true ↦ (each_kept test _ ps h.0, rising-kept m test ps h.1)
       | false ↦ rising-kept m test ps h.1
     ]
 
@@ -92,7 +92,7 @@ module _ {C W R : Type 0} (m : Meaning C W R) where
     rising-put x [] n h = (tt, tt)
     rising-put x (p ∷ ps) n h =
         cond_both (is_lt (key_order m x.key p.key)) (x ∷ p ∷ ps) (p ∷ put m x ps) (Rising m)
-        (λ e. let b = lt-less _ e in ((b, All-weaker _ _ (λ q c. before-carries m law x.key p.key q.key b c) ps h.0), h))
+        (λ e. let b = lt-less _ e in ((b, each_weaker _ _ (λ q c. before-carries m law x.key p.key q.key b c) ps h.0), h))
         (λ e.
         let f = other p ps x n in
         (all-put (λ q. Before m p.key q.key) x ps (after m law x.key p.key e f.0) h.0, rising-put x ps f.1 h.1))

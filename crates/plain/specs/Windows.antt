@@ -1,9 +1,10 @@
 -- What a window matches, and its sum.
-use Rattle.std.specs.Prelude.{◌≡◌, ℕ, Bool, not, ◌&&◌, T, ◌⊎◌, List, [], ◌∷◌, map, take, filter, Float}
+use Rattle.std.specs.Prelude.{◌≡◌, ℕ, Bool, not, ◌&&◌, T, List, map, take, filter, Float}
 use Rattle.std.specs.Float.Ieee.{le}
 use Rattle.std.specs.Ordering.{is_le, is_gt}
 use Rattle.std.specs.List.{AllByRecursion}
 use Rattle.kinds.specs.Meaning.{Meaning}
+pub use Rattle.sums.specs.Lists.{One}
 use Rattle.sums.specs.Sum.{sum_of}
 use Rattle.plain.specs.declared.point.Point.{Point}
 
@@ -35,11 +36,6 @@ module _ {C W R : Type 0} (m : Meaning C W R) where
 -- the binary32 sum of the numbers of the points' weights, in the order of the list
 abbrev pub total : {C W : Type 0} → (W → Float) → List (Point C W) → Float
 total number ps = sum_of (map (λ p. number p.weight) ps)
-
--- P holds of one of them
-abbrev pub One : {X : Type 0} → (X → Type 0) → List X → Type 0
-One P [] = ⊥
-One P (x ∷ xs) = P x ⊎ One P xs
 
 -- each key of the first list stands in the second, at a weight whose number is no smaller
 abbrev pub Covered : {C W : Type 0} → (W → Float) → List (Point C W) → List (Point C W) → Type 0

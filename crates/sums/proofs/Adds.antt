@@ -1,11 +1,13 @@
 -- Sums of two numbers that are not negative grow with each part, and are no smaller than the first part.
 use Rattle.std.proofs.Common.{◌≡◌, ℕ, zero, suc, ◌+◌, ◌-◌, ◌*◌, ◌%◌, ◌^◌, ◌<◌, ◌≤◌, Bool, true, false, cond, not, ◌&&◌, ◌||◌, T, eqb, ltb, leb, ◌⊎◌, ℤ, pos, negsuc, sym, refl, ap, ◌∙◌, subst, inl, inr, le_of_eq, le_refl, lt_of_lt_of_le, le_of_suc-le-suc, le_of_lt, lt_irrefl, mul-le-mul_right, mul_assoc, mul_comm, add-mul, lt_of_mul-lt-mul_right, mul-lt-mul_of_pos_right, mul-pos, lt_of_not-le, zero-mul, mul-one, mul_right_comm, mul_left_comm, arith, eqb→eq, ltb→lt, leb→le, pow_pos, pow-add}
+use Rattle.std.specs.Float.{NotNan}
+use Rattle.std.proofs.lemmas.Float.{le_trans}
 use lib.Pow.{pow-lt}
-use lib.Ieee.{Float, nan, inf, fin, Format, prec, emax, low, up, down, odd, units, round, add, le, fits}
+use lib.Ieee.{Float, is_nan, nan, inf, fin, Format, prec, emax, low, up, down, odd, units, round, add, le, fits}
 use lib.Ieee.Fits.{down_pos, and_l, and_r, round_is}
 use lib.Ieee.Exact.{HasValue, round_exact}
 use lib.Ieee.Order.{le_of_values, round_mono}
-use lib.Ieee.Positive.{num, den, den_pos, through}
+use lib.Ieee.Positive.{num, den, den_pos}
 
 -- not negative: an infinity included
 abbrev pub nonneg : Float → Bool
@@ -25,13 +27,6 @@ le-top nan p = absurd p
 le-top (inf true) p = absurd p
 le-top (inf false) p = tt
 le-top (fin s m e) p = tt
-
-pub top-le : (y : Float) → T (nonneg y) → T (le (inf false) y) → y ≡ inf false
-unfolding le
-top-le nan p h = absurd p
-top-le (inf true) p h = absurd p
-top-le (inf false) p h = refl
-top-le (fin s m e) p h = absurd h
 
 split : (a b : Bool) → T (a || b) → T a ⊎ T b
 split true b t = inl tt
@@ -66,24 +61,11 @@ which (inf true) p = absurd p
 which (inf false) p = inr refl
 which (fin s m e) p = inl p
 
-pub le-refl' : (x : Float) → T (nonneg x) → T (le x x)
-le-refl' x p = elim (which x p) [ inl f ↦ cross→le x x f f (le_refl (num x * den x)) | inr e ↦ subst (λ (z : Float). T (le z z)) (sym e) (le-top (inf false) tt) ]
-
-pub le-trans' : (x y z : Float) → T (nonneg x) → T (nonneg y) → T (nonneg z) → T (le x y) → T (le y z) → T (le x z)
-le-trans' x y z p q r h k =
-    elim (which z r) [
-      | inr e ↦ subst (λ (v : Float). T (le x v)) (sym e) (le-top x p)
-      | inl fz ↦ elim (which y q) [
-        | inr e ↦ absurd (no z fz (top-le z r (subst (λ (v : Float). T (le v z)) e k)))
-        | inl fy ↦ elim (which x p) [
-          | inr e ↦ absurd (no y fy (top-le y q (subst (λ (v : Float). T (le v y)) e h)))
-          | inl fx ↦ cross→le x z fx fz (through (num x) (num y) (num z) (den x) (den y) (den z) (den_pos y) (le→cross x y fx fy h) (le→cross y z fy fz k))
-        ]
-      ]
-    ]
-  where
-    no : (v : Float) → T (finite v) → v ≡ inf false → ⊥
-    no v f e = subst (λ (w : Float). T (finite w)) e f
+pub is_number : (x : Float) → T (nonneg x) → NotNan x
+unfolding is_nan
+is_number nan p = absurd p
+is_number (inf s) p = tt
+is_number (fin s m e) p = tt
 
 -- ---- a rounded fraction is not negative
 odd-nonneg : (d q k l : ℕ) → T (nonneg (odd d false q k l))
@@ -232,4 +214,4 @@ add-grows f x w t p q = elim (which w q) [
         let a : T (le (fin false (suc m) e) r) = le_of_values (fin false (suc m) e) r X (down e) X (down e) (down_pos e) (down_pos e) (refl, refl) (round-own f m e t) (le_refl (X * down e)) in
         let b : T (le r s) = round_mono f X (down e) (X * den w + num w * down e) (down e * den w) (down_pos e) (mul-pos (down_pos e) (den_pos w)) (more X (down e) (num w) (den w)) in
         subst (λ (z : Float). T (le (fin false (suc m) e) z)) (sym (add_is f (fin false (suc m) e) w tt fw))
-        (le-trans' (fin false (suc m) e) r s tt (round-nonneg f X (down e)) (round-nonneg f (X * den w + num w * down e) (down e * den w)) a b)
+        (le_trans (fin false (suc m) e) r s a b)

@@ -1,11 +1,13 @@
 -- Of two lists in the order of their keys, the one that has the other's keys, at numbers no smaller, has a sum no smaller.
-use Rattle.std.proofs.Common.{◌≡◌, T, ◌⊎◌, List, [], ◌∷◌, map, sym, subst, inl, inr}
+use Rattle.std.proofs.Common.{◌≡◌, T, List, [], ◌∷◌, map, sym, subst, inl, inr}
+use Rattle.std.proofs.lemmas.Float.{le_refl, le_trans}
 use lib.Ieee.{Float, binary32, add, le, of_bits, fits}
 use lib.Ieee.Fits.{add-fits}
 use lib.Ieee.Bits.{of_bits-fits}
 use Rattle.std.specs.List.{AllByRecursion}
+use Rattle.sums.specs.Lists.{One}
 use Rattle.sums.specs.Sum.{sum_from, sum_of}
-use Rattle.sums.proofs.Adds.{nonneg, add-mono, add-grows, add-nonneg, le-trans', le-refl'}
+use Rattle.sums.proofs.Adds.{nonneg, add-mono, add-grows, add-nonneg, is_number}
 
 zero-nonneg : T (nonneg (of_bits binary32 0))
 unfolding of_bits
@@ -17,11 +19,6 @@ module _ {X K : Type 0} (key : X → K) (number : X → Float) where
   abbrev pub Counts : X → Type 0
   Counts x = T (nonneg (number x))
 
-  -- P holds of one of them
-  abbrev pub One : (X → Type 0) → List X → Type 0
-  One P [] = ⊥
-  One P (x ∷ xs) = P x ⊎ One P xs
-
   -- y has the key of x, at a number no smaller
   abbrev pub Covers : (x y : X) → Type 0
   Covers x y = (key x ≡ key y) × T (le (number x) (number y))
@@ -32,12 +29,12 @@ module _ {X K : Type 0} (key : X → K) (number : X → Float) where
 
   -- a sum is no smaller than where it began
   from-grows : (s : Float) (ys : List X) → T (fits binary32 s) → T (nonneg s) → AllByRecursion Counts ys → T (le s (sum_from s (map number ys))) × T (nonneg (sum_from s (map number ys)))
-  from-grows s [] f p h = (le-refl' s p, p)
+  from-grows s [] f p h = (le_refl s (is_number s p), p)
   from-grows s (y ∷ ys) f p h =
       let v = number y in
       let q = add-nonneg binary32 s v p h.0 in
       let r = from-grows (add binary32 s v) ys (add-fits binary32 s v) q h.1 in
-      (le-trans' s (add binary32 s v) (sum_from (add binary32 s v) (map number ys)) p q r.1 (add-grows binary32 s v f p h.0) r.0, r.1)
+      (le_trans s (add binary32 s v) (sum_from (add binary32 s v) (map number ys)) (add-grows binary32 s v f p h.0) r.0, r.1)
 
   module _ (before : K → K → Type 0) (never : (a b : K) → before a b → before b a → ⊥) where
     -- each key is before the keys of all that follow
@@ -68,7 +65,7 @@ module _ {X K : Type 0} (key : X → K) (number : X → Float) where
 
     grow : (s t : Float) (xs ys : List X) → T (fits binary32 t) → T (nonneg s) → T (nonneg t) → T (le s t) → Sorted xs → Sorted ys → AllByRecursion Counts xs → AllByRecursion Counts ys → AllCovered xs ys
         → T (le (sum_from s (map number xs)) (sum_from t (map number ys)))
-    grow s t [] ys f p q l a b h k c = let r = from-grows t ys f q k in le-trans' s t (sum_from t (map number ys)) p q r.1 l r.0
+    grow s t [] ys f p q l a b h k c = let r = from-grows t ys f q k in le_trans s t (sum_from t (map number ys)) l r.0
     grow s t (x ∷ xs) [] f p q l a b h k c = absurd c.0
     grow s t (x ∷ xs) (y ∷ ys) f p q l a b h k c =
         let u = number x in
@@ -81,9 +78,9 @@ module _ {X K : Type 0} (key : X → K) (number : X → Float) where
               (tail-covers y ys xs (subst (λ (j : K). AllByRecursion (λ z. (key z ≡ j) → ⊥) xs) o.0 (later (key x) xs a.0)) c.1)
           | inr o ↦
               grow s (add binary32 t v) (x ∷ xs) ys (add-fits binary32 t v) p q'
-              (le-trans' s t (add binary32 t v) p q q' l (add-grows binary32 t v f q k.0))
+              (le_trans s t (add binary32 t v) l (add-grows binary32 t v f q k.0))
               a b.1 h k.1 (o, tail-covers y ys xs (beyond x y xs (after x y ys b.0 o) a.0) c.1)
         ]
 
     pub sums-grow : (xs ys : List X) → Sorted xs → Sorted ys → AllByRecursion Counts xs → AllByRecursion Counts ys → AllCovered xs ys → T (le (sum_of (map number xs)) (sum_of (map number ys)))
-    sums-grow xs ys a b h k c = let z = of_bits binary32 0 in grow z z xs ys (of_bits-fits binary32 0) zero-nonneg zero-nonneg (le-refl' z zero-nonneg) a b h k c
+    sums-grow xs ys a b h k c = let z = of_bits binary32 0 in grow z z xs ys (of_bits-fits binary32 0) zero-nonneg zero-nonneg (le_refl z (is_number z zero-nonneg)) a b h k c
