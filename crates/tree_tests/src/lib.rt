@@ -7,8 +7,6 @@ mod broken;
 #[cfg(test)]
 mod checks;
 #[cfg(test)]
-mod model;
-#[cfg(test)]
 mod runs;
 #[cfg(test)]
-mod steps;
+mod trial;
