@@ -27,7 +27,7 @@ use Rattle.tree.proofs.Picks.{key-tree}
 use Rattle.tree.specs.Places.{key_of_node}
 use Rattle.tree.proofs.Spared.{spares-kept, all-inside}
 use Rattle.grow.specs.Grown.{Ready, Inserted, most, half}
-use Rattle.grow.specs.Nodes.{renewed}
+use Rattle.table.specs.Nodes.{over}
 use Rattle.grow.proofs.Leaves.{root-within}
 
 module _ {C W : Type 0} where
@@ -164,20 +164,20 @@ module _ {C W R : Type 0} (m : Meaning C W R) where
 
         -- ---- the node has room
         pub fits : (k : Children) (first : Node C R) → kids_of k ≡ take i ks ++ ((c ∷ option_to_list o) ++ drop (i + 1) ks) → slice_get b (get_or (kids_of k) 0 0) ≡ Some first → 0 < length (kids_of k) → length (kids_of k) ≤ 4 → i ≡ pick m x.key ts
-            → Inserted m a (set b at (renewed n first k)) f g (suc h) at x None
+            → Inserted m a (set b at (over n first.own k)) f g (suc h) at x None
         fits k first kids-are first-is some few picked =
             let e = inserted-is picked ∙ whole grown.1 in
-            let d = set b at (renewed n first k) in
+            let d = set b at (over n first.own k) in
             let within : at < length b = omega (arith, root-within m a f (suc h) at r) in
             let u : grow (tree_at m b h) (kids_of k) ≡ grown_forest = ap (grow (tree_at m b h)) kids-are ∙ trees-now in
             let off : uses_all (grow (tree_at m b h) (kids_of k)) at ≡ 0 = ap (λ us. uses_all us at) u ∙ omega (arith, apart-now at, inside_one (length a) at, hit-here at) in
             record {
-              trees = ap (λ t. more t none) (fork-now m b h at (renewed n first k) within (kids_of k) refl off ∙ ap (λ us. fork at (key_in first.own) (kept_in m n) us) u ∙ ap (λ j. fork at j (kept_in m n) grown_forest) (sym first_key_lem)) ∙ sym (ap (λ p. p.0) e);
-              spare = spares-kept b d g (length-set b at (renewed n first k)) (λ q z. other m b h at (renewed n first k) within q (omega (arith, apart-now q, inside_one (length a) q, subst (λ l. 0 < occurs q l) ins.spare z))) ∙ ins.spare ∙ sym (ap (λ p. p.1) e);
+              trees = ap (λ t. more t none) (fork-now m b h at (over n first.own k) within (kids_of k) refl off ∙ ap (λ us. fork at (key_in first.own) (kept_in m n) us) u ∙ ap (λ j. fork at j (kept_in m n) grown_forest) (sym first_key_lem)) ∙ sym (ap (λ p. p.0) e);
+              spare = spares-kept b d g (length-set b at (over n first.own k)) (λ q z. other m b h at (over n first.own k) within q (omega (arith, apart-now q, inside_one (length a) q, subst (λ l. 0 < occurs q l) ins.spare z))) ∙ ins.spare ∙ sym (ap (λ p. p.1) e);
               frame = λ q y z.
                   let w : hit at q + uses_all ts q ≡ 0 = sym (ap (λ t. uses t q) was) ∙ y in
                   let v : hit at q + uses_all grown_forest q + 0 ≡ 0 = sym (ap (λ p. uses_all p.0 q) e) ∙ z in
-                  other m b h at (renewed n first k) within q (omega arith) ∙ frame-now q (omega arith) (omega arith);
+                  other m b h at (over n first.own k) within q (omega arith) ∙ frame-now q (omega arith) (omega arith);
             }
           where
             counted : count grown_forest ≤ most

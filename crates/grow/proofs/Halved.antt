@@ -1,6 +1,6 @@
 -- Four children and one more, in two parts.
 use Rattle.std.proofs.Common.{◌≡◌, ℕ, zero, suc, ◌+◌, ◌-◌, ◌<◌, ◌≤◌, List, [], ◌∷◌, ◌++◌, length, take, drop, refl, arith}
-use Rattle.grow.specs.Nodes.{with_next}
+use Rattle.grow.specs.Split.{with_next}
 
 -- a list of four, by its elements
 four : (P : List ℕ → Type 0) → ((a b c d : ℕ) → P (a ∷ b ∷ c ∷ d ∷ [])) → (ks : List ℕ) → length ks ≡ 4 → P ks

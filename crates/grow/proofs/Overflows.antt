@@ -23,8 +23,7 @@ use Rattle.table.proofs.Steps.{inside_one, kids, below}
 use Rattle.tree.proofs.Heights.{up}
 use Rattle.tree.proofs.Spared.{spares-kept}
 use Rattle.grow.specs.Grown.{Ready, Inserted, most, half}
-use Rattle.grow.specs.Nodes.{with_next}
-use Rattle.grow.specs.Split.{under, Apart, Split}
+use Rattle.grow.specs.Split.{with_next, under, Apart, Split}
 use Rattle.grow.proofs.Forked.{fine-sounds, was, grown, grown_forest, fine-now, apart-now, trees-now, frame-now, inserted-is}
 
 -- the places with one more after number i

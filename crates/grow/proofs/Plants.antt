@@ -1,5 +1,5 @@
 -- A point more in the whole tree: in the table, as in the tree.
-use Rattle.std.proofs.Common.{◌≡◌, ℕ, suc, ◌+◌, ◌-◌, ◌<◌, ◌≤◌, true, leb, List, [], ◌∷◌, length, set, Some, Option, sym, refl, ap, ◌∙◌, subst, arith, length-set, le-leb}
+use Rattle.std.proofs.Common.{◌≡◌, ℕ, suc, ◌+◌, ◌-◌, ◌<◌, ◌≤◌, leb, List, [], ◌∷◌, length, set, Some, Option, sym, refl, ap, ◌∙◌, subst, arith, length-set, le-leb}
 use borrow.Author.Tests.{lt-leb}
 use Rattle.std.specs.List.{AllByRecursion}
 use Rattle.std.proofs.lemmas.Bool.{cond-true, cond-false}
@@ -27,9 +27,9 @@ use Rattle.grow.proofs.Splits.{settled-uses, settled-level, settled-degrees}
 
 -- ---- the first point
 pub planted : {C W R : Type 0} (m : Meaning C W R) (a : List (Node C R)) (f g : Free) (x : Stored C R) (c : Children) (q : ℕ) → spares a f ≡ q ∷ spares a g → q < length a → ((z : ℕ) → occurs z (spares a f) ≤ 1)
-    → Planted m a (set a q (keeping (bare x c) true x)) f g 0 none (point_in m x) 0 q
+    → Planted m a (set a q (keeping (bare x c) (Some x))) f g 0 none (point_in m x) 0 q
 planted m a f g x c q took within apart =
-    let n = keeping (bare x c) true x in
+    let n = keeping (bare x c) (Some x) in
     let e = ap (λ qs. with_point m most half 0 (point_in m x) qs none) took in
     record {
       forest = ap (λ t. more t none) (ap (leaf_of m q) (nth-set-same a q n within)) ∙ sym (ap (λ r. r.0) e);

@@ -16,13 +16,14 @@ use Rattle.shapes.proofs.Adds.{with-point-whole}
 use Rattle.table.specs.declared.node.Node.{Node}
 use Rattle.table.specs.declared.free.Free.{Free}
 use Rattle.table.specs.declared.header.Header.{Header}
+use Rattle.table.specs.declared.subtree.Subtree.{Subtree}
 use Rattle.table.specs.Spares.{spares}
 use Rattle.table.specs.Reading.{tree_at, inside}
 use Rattle.table.proofs.Steps.{inside_one}
 use Rattle.tree.specs.Standing.{forest_of, points_of, Standing, Ruled}
 use Rattle.tree.proofs.Spared.{all-inside}
 use Rattle.grow.specs.Grown.{Ready, most, half}
-use Rattle.grow.specs.Planted.{Planted, header_of}
+use Rattle.grow.specs.Planted.{Planted}
 
 -- a tree with so few points is low
 bound : (h c : ℕ) → 2 ^ h ≤ c → c < 32768 → h < 255
@@ -39,7 +40,7 @@ module _ {C W R : Type 0} (m : Meaning C W R) (a : List (Node C R)) (hd : Header
   qs = spares a hd.free
 
   pub met : wants f ≤ length qs
-  met = wants-met (suc hd.count) hd.height f (length qs) s.holds (omega (arith, s.counted)) (omega (arith, s.free, room))
+  met = wants-met (suc hd.count) hd.top.height f (length qs) s.holds (omega (arith, s.counted)) (omega (arith, s.free, room))
 
   pub spares-in : AllByRecursion (λ q. q < length a) qs
   spares-in = all-inside (length a) qs (λ q. omega (arith, s.places q))
@@ -58,20 +59,20 @@ module _ {C W R : Type 0} (m : Meaning C W R) (a : List (Node C R)) (hd : Header
   some-spare z = omega (arith, subst (λ g. wants g ≤ length qs) (empty z) met)
 
   -- ---- a tree
-  pub one-tree : (hd.count ≡ 0 → ⊥) → f ≡ more (tree_at m a hd.height hd.root) none
+  pub one-tree : (hd.count ≡ 0 → ⊥) → f ≡ more (tree_at m a hd.top.height hd.top.root) none
   one-tree nz = cond-false (eqb hd.count 0) _ _ (ne_eqb hd.count 0 nz)
 
   module _ (nz : hd.count ≡ 0 → ⊥) where
     abbrev t : Tree C W
-    t = tree_at m a hd.height hd.root
+    t = tree_at m a hd.top.height hd.top.root
 
-    holds : Holds hd.height (more t none)
-    holds = subst (Holds hd.height) (one-tree nz) s.holds
+    holds : Holds hd.top.height (more t none)
+    holds = subst (Holds hd.top.height) (one-tree nz) s.holds
 
     pub enough : suc (suc (full t most)) ≤ length qs
     enough = subst (λ g. wants g ≤ length qs) (one-tree nz) met
 
-    pub ready : Ready m a hd.free hd.height hd.root
+    pub ready : Ready m a hd.free hd.top.height hd.top.root
     ready = record {
       small = s.small;
       level = holds.fine.level.0;
@@ -81,28 +82,28 @@ module _ {C W R : Type 0} (m : Meaning C W R) (a : List (Node C R)) (hd : Header
       room = omega (arith, enough);
     }
 
-    pub low : hd.height < 255
-    low = go (points-least most t hd.height holds.fine.level.0 holds.fine.degrees.0)
+    pub low : hd.top.height < 255
+    low = go (points-least most t hd.top.height holds.fine.level.0 holds.fine.degrees.0)
       where
         n : length (points t) ≡ hd.count
         n = sym (s.counted ∙ ap (λ g. length (points_all g)) (one-tree nz) ∙ length-append (points t) [] ∙ omega arith)
 
-        go : 2 ^ hd.height ≤ length (points t) → hd.height < 255
-        go p = bound hd.height hd.count (omega (arith, n)) (omega (arith, room, s.small))
+        go : 2 ^ hd.top.height ≤ length (points t) → hd.top.height < 255
+        go p = bound hd.top.height hd.count (omega (arith, n)) (omega (arith, room, s.small))
 
   -- ---- after
-  module _ (x : Point C W) (b : List (Node C R)) (g : Free) (i p : ℕ) (len : length b ≡ length a) (pl : Planted m a b hd.free g hd.height f x i p) where
+  module _ (x : Point C W) (b : List (Node C R)) (g : Free) (top : Subtree) (len : length b ≡ length a) (pl : Planted m a b hd.free g hd.top.height f x top.height top.root) where
     abbrev hd' : Header
-    hd' = header_of p i (suc hd.count) g
+    hd' = record { top = top; count = hd.count + 1; free = g }
 
     abbrev r : Forest C W × ℕ × List ℕ
-    r = with_point m most half hd.height x qs f
+    r = with_point m most half hd.top.height x qs f
 
     now : forest_of m b hd' ≡ r.0
-    now = cond-false (eqb (suc hd.count) 0) _ _ (ne_eqb (suc hd.count) 0 (λ e. omega arith)) ∙ pl.forest
+    now = cond-false (eqb (hd.count + 1) 0) _ _ (ne_eqb (hd.count + 1) 0 (λ e. omega arith)) ∙ pl.forest
 
     changed : Changed f qs r.0 r.1 r.2 × (length (points_all r.0) ≡ suc (length (points_all f)))
-    changed = with-point-changed m hd.height x qs f s.holds met
+    changed = with-point-changed m hd.top.height x qs f s.holds met
 
     pub stands_on : Standing m b hd'
     stands_on = record {
@@ -110,12 +111,12 @@ module _ {C W R : Type 0} (m : Meaning C W R) (a : List (Node C R)) (hd : Header
       holds = subst (λ j. Holds j (forest_of m b hd')) (sym pl.height) (subst (Holds r.1) (sym now) changed.0.holds);
       places = λ q. ap (λ t. uses_all t q + occurs q (spares b g)) now ∙ ap (λ l. uses_all r.0 q + occurs q l) pl.spare ∙ changed.0.places q ∙ s.places q ∙ ap (λ n. inside n q) (sym len);
       free = ap (λ t. size_all t + length (spares b g)) now ∙ ap (λ l. size_all r.0 + length l) pl.spare ∙ changed.0.free ∙ s.free ∙ sym len;
-      counted = ap suc s.counted ∙ sym changed.1 ∙ ap (λ t. length (points_all t)) (sym now);
+      counted = omega (arith, s.counted, changed.1, ap (λ t. length (points_all t)) now);
     }
 
     pub rules-on : First m → Second m → Ruled m a hd → FitPoint m x → stands m x.key (points_of m a hd) ≡ false → Ruled m b hd' × (points_of m b hd' ≡ put m x (points_of m a hd))
     rules-on first second w fit off =
-        let z = with-point-whole m first second hd.height x qs f w met fit off in
+        let z = with-point-whole m first second hd.top.height x qs f w met fit off in
         (subst (λ j. Whole m j (forest_of m b hd')) (sym pl.height) (subst (Whole m r.1) (sym now) z.0), ap points_all now ∙ z.1)
 
 -- where there is no tree, its height does not matter

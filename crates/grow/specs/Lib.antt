@@ -1,4 +1,3 @@
 pub mod Grown
-pub mod Nodes
 pub mod Split
 pub mod Planted

@@ -6,7 +6,6 @@ use Rattle.trees.specs.Tree.{Forest, none, more}
 use Rattle.trees.specs.Moves.{with_point}
 use Rattle.table.specs.declared.node.Node.{Node}
 use Rattle.table.specs.declared.free.Free.{Free}
-use Rattle.table.specs.declared.header.Header.{Header}
 use Rattle.table.specs.Spares.{spares}
 use Rattle.table.specs.Reading.{tree_at}
 use Rattle.grow.specs.Grown.{most, half}
@@ -16,7 +15,3 @@ pub record Planted {C W R : Type 0} (m : Meaning C W R) (a b : List (Node C R)) 
   pub forest : more (tree_at m b i p) none ≡ (with_point m most half h x (spares a f) t).0
   pub height : i ≡ (with_point m most half h x (spares a f) t).1
   pub spare : spares b g ≡ (with_point m most half h x (spares a f) t).2
-
--- a header by its parts
-abbrev pub header_of : ℕ → ℕ → ℕ → Free → Header
-header_of p h n f = record { root = p; height = h; count = n; free = f }

@@ -1,7 +1,6 @@
 // A new leaf beside another.
-ghost use Rattle.std.specs.Prelude.{◌≡◌, false, Some};
+ghost use Rattle.std.specs.Prelude.{Some};
 ghost use Rattle.table.specs.Reading.{point_in};
-ghost use Rattle.table.specs.Nodes.{bare};
 ghost use Rattle.grow.specs.Grown.{Ready, Inserted};
 
 use kinds::Kind;
@@ -9,19 +8,6 @@ use plain::key_order;
 use table::children::Children;
 use table::free::Free;
 use table::node::{Node, Stored, read, write};
-use tree::search::key_of;
-
-// A leaf for `x` that keeps nothing.
-fn new_leaf<C: Copy, R: Copy>(x: Stored<C, R>, children: Children) -> Node<C, R>
-    ensures { result ≡ bare x children }
-{
-    Node {
-        own: x,
-        kept: x,
-        children,
-        keeps: false,
-    }
-}
 
 // Lays a leaf for `x` beside the leaf at a place, and says where the second of the two stands.
 pub fn add_leaf<K: Kind>(
@@ -35,8 +21,8 @@ pub fn add_leaf<K: Kind>(
 {
     let old = read(nodes, at);
     let next = free.take(nodes);
-    let new = new_leaf(x, Children::none(0));
-    if key_order::<K>(key_of(x), key_of(old.own)).is_lt() {
+    let new = Node::bare(x, Children::none(0));
+    if key_order::<K>(x.key(), old.own.key()).is_lt() {
         write(nodes, next, old);
         write(nodes, at, new);
         return next;

@@ -1,73 +1,48 @@
 // A full node and one child more: two nodes.
-ghost use Rattle.std.specs.Prelude.{◌≡◌, ◌<◌, [], ◌∷◌, length, take, drop};
-ghost use Rattle.trees.specs.Tree.{grow};
+ghost use Rattle.std.specs.Prelude.{◌≡◌, ◌<◌, length, take, drop};
 ghost use Rattle.table.specs.Kids.{kids_of};
-ghost use Rattle.table.specs.Reading.{kept_in, tree_at, Sounds};
-ghost use Rattle.tree.specs.Forests.{Seated};
+ghost use Rattle.table.specs.Reading.{kept_in};
 ghost use Rattle.grow.specs.Grown.{half};
-ghost use Rattle.grow.specs.Nodes.{with_next};
-ghost use Rattle.grow.specs.Split.{Apart, Split};
+ghost use Rattle.grow.specs.Split.{Apart, Split, with_next};
 
 use kinds::Kind;
-use table::children::Children;
+use table::children::{Children, Sides};
 use table::node::Node;
+use table::subtree::Subtree;
 use tree::settle::{seat_kept, settle};
 
-// The children of the two halves of a node.
-#[derive(Clone, Copy)]
-pub struct Halves {
-    pub left: Children,
-    pub right: Children,
-}
-
 // Four children and `next` after number `i`: three on the left, two on the right.
-pub fn halve(children: Children, i: u8, next: u16) -> Halves
+pub fn halve(children: Children, i: usize, next: u16) -> Sides
     requires full { length (kids_of children) ≡ 4 }
     requires within { i < 4 }
     ensures left { kids_of result.left ≡ take half (with_next i next (kids_of children)) }
     ensures right { kids_of result.right ≡ drop half (with_next i next (kids_of children)) }
 {
     if i < 2 {
-        let left = children.front(2).insert(i + 1, next);
-        return Halves {
-            left,
+        Sides {
+            left: children.front(2).insert(i + 1, next),
             right: children.back(2),
-        };
+        }
+    } else {
+        Sides {
+            left: children.front(3),
+            right: children.back(3).insert(i - 2, next),
+        }
     }
-    let right = children.back(3).insert(i - 2, next);
-    Halves {
-        left: children.front(3),
-        right,
-    }
-}
-
-// What a node kept goes to the one of two trees with its leaf.
-fn seat_half<K: Kind>(
-    nodes: &mut [Node<K::Coordinate, K::Recorded>],
-    at: u16,
-    next: u16,
-    height: u8,
-    node: Node<K::Coordinate, K::Recorded>,
-)
-    requires { Sounds (length nodes.old) height (grow (tree_at K.Kind.meaning nodes.old height) (at ∷ next ∷ [])) }
-    ensures { Seated K.Kind.meaning nodes.old nodes.new height (at ∷ next ∷ []) (kept_in K.Kind.meaning node) }
-{
-    seat_kept::<K>(nodes, Children::two(at, next), height, node);
 }
 
 // Lays two nodes over the two parts; what the node kept goes to the half with its leaf.
 pub fn split<K: Kind>(
     nodes: &mut [Node<K::Coordinate, K::Recorded>],
-    at: u16,
+    tree: Subtree,
     next: u16,
-    height: u8,
     node: Node<K::Coordinate, K::Recorded>,
-    halves: Halves,
+    halves: Sides,
 )
-    requires { Apart K.Kind.meaning nodes.old height at next (kids_of halves.left) (kids_of halves.right) }
-    ensures { Split K.Kind.meaning nodes.old nodes.new height at next (kids_of halves.left) (kids_of halves.right) (kept_in K.Kind.meaning node) }
+    requires { Apart K.Kind.meaning nodes.old tree.height tree.root next (kids_of halves.left) (kids_of halves.right) }
+    ensures { Split K.Kind.meaning nodes.old nodes.new tree.height tree.root next (kids_of halves.left) (kids_of halves.right) (kept_in K.Kind.meaning node) }
 {
-    settle::<K>(nodes, at, height, halves.left);
-    settle::<K>(nodes, next, height, halves.right);
-    seat_half::<K>(nodes, at, next, height, node);
+    settle::<K>(nodes, tree, halves.left);
+    settle::<K>(nodes, Subtree { root: next, ..tree }, halves.right);
+    seat_kept::<K>(nodes, Children::of(&[tree.root, next]), tree.height, node);
 }

@@ -1,5 +1,5 @@
 // A point more in the whole tree.
-ghost use Rattle.std.specs.Prelude.{◌≡◌, ℕ, suc, ◌*◌, ◌<◌, ◌≤◌, true, false, length};
+ghost use Rattle.std.specs.Prelude.{◌≡◌, ℕ, suc, ◌*◌, ◌<◌, ◌≤◌, false, length};
 ghost use Rattle.std.specs.List.{AllByRecursion};
 ghost use Rattle.plain.specs.Points.{FitPoint};
 ghost use Rattle.plain.specs.Set.{put, stands};
@@ -9,10 +9,9 @@ ghost use Rattle.shapes.specs.Shape.{full, occurs};
 ghost use Rattle.table.specs.Spares.{spares};
 ghost use Rattle.table.specs.Reading.{point_in, tree_at};
 ghost use Rattle.table.specs.Keys.{key_in};
-ghost use Rattle.table.specs.Nodes.{bare, keeping};
 ghost use Rattle.tree.specs.Standing.{points_of, Standing, Ruled};
 ghost use Rattle.grow.specs.Grown.{Ready, most};
-ghost use Rattle.grow.specs.Planted.{Planted, header_of};
+ghost use Rattle.grow.specs.Planted.{Planted};
 
 use crate::insert::insert_at;
 use kinds::Kind;
@@ -20,33 +19,15 @@ use table::children::Children;
 use table::free::Free;
 use table::header::Header;
 use table::node::{Node, Stored, write};
+use table::subtree::Subtree;
 use tree::settle::{seat, settle};
-
-// Where a tree begins, and its height.
-#[derive(Clone, Copy)]
-pub struct Top {
-    pub root: u16,
-    pub height: u8,
-}
-
-// A leaf that keeps its own point.
-fn lone_leaf<C: Copy, R: Copy>(x: Stored<C, R>, children: Children) -> Node<C, R>
-    ensures { result ≡ keeping (bare x children) true x }
-{
-    Node {
-        own: x,
-        kept: x,
-        children,
-        keeps: true,
-    }
-}
 
 // The first point.
 fn plant<K: Kind>(
     nodes: &mut [Node<K::Coordinate, K::Recorded>],
     free: &mut Free,
     x: Stored<K::Coordinate, K::Recorded>,
-) -> Top
+) -> Subtree
     requires small { length nodes.old ≤ most_nodes }
     requires some { 0 < length (spares nodes.old free.old) }
     requires within { AllByRecursion (λ q. q < length nodes.old) (spares nodes.old free.old) }
@@ -54,44 +35,34 @@ fn plant<K: Kind>(
     ensures { Planted K.Kind.meaning nodes.old nodes.new free.old free.new 0 none (point_in K.Kind.meaning x) result.height result.root }
 {
     let root = free.take(nodes);
-    write(nodes, root, lone_leaf(x, Children::none(0)));
-    Top { root, height: 0 }
+    let leaf = Node::bare(x, Children::none(0)).keeping(Some(x));
+    write(nodes, root, leaf);
+    Subtree { root, height: 0 }
 }
 
 // One point more than none: a leaf, a new root where the old one was split, and a node to keep it.
 fn extend<K: Kind>(
     nodes: &mut [Node<K::Coordinate, K::Recorded>],
     free: &mut Free,
-    top: Top,
+    top: Subtree,
     x: Stored<K::Coordinate, K::Recorded>,
-) -> Top
+) -> Subtree
     requires ready { Ready K.Kind.meaning nodes.old free.old top.height top.root }
     requires room { suc (suc (full (tree_at K.Kind.meaning nodes.old top.height top.root) most)) ≤ length (spares nodes.old free.old) }
     requires low { top.height < 255 }
     ensures { Planted K.Kind.meaning nodes.old nodes.new free.old free.new top.height (more (tree_at K.Kind.meaning nodes.old top.height top.root) none) (point_in K.Kind.meaning x) result.height result.root }
 {
-    let Some(q) = insert_at::<K>(nodes, free, top.root, top.height, x) else {
-        seat::<K>(nodes, Children::one(top.root), top.height, x);
+    let Some(q) = insert_at::<K>(nodes, free, top, x) else {
+        seat::<K>(nodes, Children::of(&[top.root]), top.height, x);
         return top;
     };
-    let root = free.take(nodes);
-    let height = top.height + 1;
-    settle::<K>(nodes, root, height, Children::two(top.root, q));
-    seat::<K>(nodes, Children::one(root), height, x);
-    Top { root, height }
-}
-
-// The header after one point more.
-fn raised(old: Header, top: Top, free: Free) -> Header
-    requires { old.count < 65535 }
-    ensures { result ≡ header_of top.root top.height (suc old.count) free }
-{
-    Header {
-        root: top.root,
-        height: top.height,
-        count: old.count + 1,
-        free,
-    }
+    let above = Subtree {
+        root: free.take(nodes),
+        height: top.height + 1,
+    };
+    settle::<K>(nodes, above, Children::of(&[top.root, q]));
+    seat::<K>(nodes, Children::of(&[above.root]), above.height, x);
+    above
 }
 
 // Adds a point: the tree then holds it beside the others, and keeps it.
@@ -107,15 +78,14 @@ pub fn insert<K: Kind>(
 {
     let old = *header;
     let mut free = old.free;
-    if old.count == 0 {
-        let top = plant::<K>(nodes, &mut free, x);
-        *header = raised(old, top, free);
-        return;
-    }
-    let top = Top {
-        root: old.root,
-        height: old.height,
+    let top = if old.count == 0 {
+        plant::<K>(nodes, &mut free, x)
+    } else {
+        extend::<K>(nodes, &mut free, old.top, x)
     };
-    let above = extend::<K>(nodes, &mut free, top, x);
-    *header = raised(old, above, free);
+    *header = Header {
+        top,
+        count: old.count + 1,
+        free,
+    };
 }

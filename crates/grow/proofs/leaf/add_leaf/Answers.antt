@@ -27,8 +27,8 @@ pub returns-then-is_lt : goal.returns-then-is_lt
 returns-then-is_lt g c =
     let x = c.args.x in
     let old = c.read-old.result in
-    let e : is_lt (key_order g.K.Kind.meaning (key_in x) (key_in old.own)) ≡ true = sym (c.is_lt.ensures ∙ ap is_lt (c.key_order.ensures ∙ ap (λ k. key_order g.K.Kind.meaning k c.key_of-2.result) c.key_of.ensures ∙ ap (key_order g.K.Kind.meaning (key_in x)) c.key_of-2.ensures)) ∙ c.if-is_lt.true in
-    let b : c.write-then-is_lt.new.nodes ≡ set (set c.args.nodes.now c.take-next.result old) c.args.at (bare x c.none.result) = c.write-then-is_lt.ensures ∙ ap (λ d. set d c.args.at c.new_leaf-new.result) c.write.ensures ∙ ap (λ n. set (set c.args.nodes.now c.take-next.result old) c.args.at n) c.new_leaf-new.ensures in
+    let e : is_lt (key_order g.K.Kind.meaning (key_in x) (key_in old.own)) ≡ true = sym (c.is_lt.ensures ∙ ap is_lt (c.key_order.ensures ∙ ap (λ k. key_order g.K.Kind.meaning k c.key-2.result) c.key.ensures ∙ ap (key_order g.K.Kind.meaning (key_in x)) c.key-2.ensures)) ∙ c.if-is_lt.true in
+    let b : c.write-then-is_lt.new.nodes ≡ set (set c.args.nodes.now c.take-next.result old) c.args.at (bare x c.none.result) = c.write-then-is_lt.ensures ∙ ap (λ d. set d c.args.at c.bare-new.result) c.write.ensures ∙ ap (λ n. set (set c.args.nodes.now c.take-next.result old) c.args.at n) c.bare-new.ensures in
     subst (λ d. Inserted g.K.Kind.meaning c.args.nodes.now d c.args.free.now c.take-next.new.self 0 c.args.at (point_in g.K.Kind.meaning x) (Some c.take-next.result)) (sym b)
     (leaf-before g.K.Kind.meaning c.args.nodes.now c.args.free.now c.take-next.new.self c.args.at c.take-next.result c.requires c.take-next.ensures old c.read-old.ensures x c.none.result (root-within g.K.Kind.meaning c.args.nodes.now c.args.free.now 0 c.args.at c.requires) e)
 
@@ -36,7 +36,7 @@ pub returns : goal.returns
 returns g c =
     let x = c.args.x in
     let old = c.read-old.result in
-    let e : is_lt (key_order g.K.Kind.meaning (key_in x) (key_in old.own)) ≡ false = sym (c.is_lt.ensures ∙ ap is_lt (c.key_order.ensures ∙ ap (λ k. key_order g.K.Kind.meaning k c.key_of-2.result) c.key_of.ensures ∙ ap (key_order g.K.Kind.meaning (key_in x)) c.key_of-2.ensures)) ∙ c.if-is_lt.false in
-    let b : c.write-2.new.nodes ≡ set c.args.nodes.now c.take-next.result (bare x c.none.result) = c.write-2.ensures ∙ ap (λ n. set c.args.nodes.now c.take-next.result n) c.new_leaf-new.ensures in
+    let e : is_lt (key_order g.K.Kind.meaning (key_in x) (key_in old.own)) ≡ false = sym (c.is_lt.ensures ∙ ap is_lt (c.key_order.ensures ∙ ap (λ k. key_order g.K.Kind.meaning k c.key-2.result) c.key.ensures ∙ ap (key_order g.K.Kind.meaning (key_in x)) c.key-2.ensures)) ∙ c.if-is_lt.false in
+    let b : c.write-2.new.nodes ≡ set c.args.nodes.now c.take-next.result (bare x c.none.result) = c.write-2.ensures ∙ ap (λ n. set c.args.nodes.now c.take-next.result n) c.bare-new.ensures in
     subst (λ d. Inserted g.K.Kind.meaning c.args.nodes.now d c.args.free.now c.take-next.new.self 0 c.args.at (point_in g.K.Kind.meaning x) (Some c.take-next.result)) (sym b)
     (leaf-after g.K.Kind.meaning c.args.nodes.now c.args.free.now c.take-next.new.self c.args.at c.take-next.result c.requires c.take-next.ensures old c.read-old.ensures x c.none.result (root-within g.K.Kind.meaning c.args.nodes.now c.args.free.now 0 c.args.at c.requires) e)

@@ -8,15 +8,15 @@ returns-then-i-lt2 c =
     let ks = kids_of c.args.children in
     let i = c.args.i in
     record {
-      left = c.insert-left.ensures ∙ ap (λ l. take (i + 1) l ++ (c.args.next ∷ drop (i + 1) l)) c.front.ensures ∙ low-left i c.args.next ks c.requires.full c.if-i-lt2.true;
+      left = c.insert.ensures ∙ ap (λ l. take (i + 1) l ++ (c.args.next ∷ drop (i + 1) l)) c.front.ensures ∙ low-left i c.args.next ks c.requires.full c.if-i-lt2.true;
       right = c.back.ensures ∙ low-right i c.args.next ks c.requires.full c.if-i-lt2.true;
     }
 
-pub returns : goal.returns
-returns c =
+pub returns-else-i-lt2 : goal.returns-else-i-lt2
+returns-else-i-lt2 c =
     let ks = kids_of c.args.children in
     let i = c.args.i in
     record {
-      left = c.front-2.ensures ∙ high-left i c.args.next ks c.requires.full c.if-i-lt2.false c.requires.within;
-      right = c.insert-right.ensures ∙ ap (λ l. take (i - 2) l ++ (c.args.next ∷ drop (i - 2) l)) c.back-2.ensures ∙ high-right i c.args.next ks c.requires.full c.if-i-lt2.false c.requires.within;
+      left = c.front-else-i-lt2.ensures ∙ high-left i c.args.next ks c.requires.full c.if-i-lt2.false c.requires.within;
+      right = c.insert-else-i-lt2.ensures ∙ ap (λ l. take (i - 2) l ++ (c.args.next ∷ drop (i - 2) l)) c.back-else-i-lt2.ensures ∙ high-right i c.args.next ks c.requires.full c.if-i-lt2.false c.requires.within;
     }
