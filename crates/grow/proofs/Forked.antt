@@ -1,5 +1,5 @@
 -- A leaf more below a node: what the table holds once the child has grown.
-use Rattle.std.proofs.Common.{◌≡◌, ℕ, zero, suc, ◌+◌, ◌<◌, ◌≤◌, Bool, cond, leb, List, [], ◌∷◌, ◌++◌, length, get_or, take, drop, set, Some, None, Option, unwrap_or, sym, refl, ap, ◌∙◌, subst, arith, length-set}
+use Rattle.std.proofs.Common.{◌≡◌, ℕ, zero, suc, ◌+◌, ◌-◌, ◌<◌, ◌≤◌, Bool, cond, leb, List, [], ◌∷◌, ◌++◌, length, get_or, take, drop, set, Some, None, Option, unwrap_or, sym, refl, ap, ◌∙◌, subst, arith, length-append, length-set}
 use borrow.Author.Tests.{le-true}
 use Rattle.std.specs.List.{slice_get, AllByRecursion}
 use Rattle.std.specs.Option.{option_to_list}
@@ -8,7 +8,6 @@ use Rattle.kinds.specs.Meaning.{Meaning}
 use Rattle.plain.specs.declared.point.Point.{Point}
 use Rattle.trees.specs.Tree.{Tree, Forest, gone, leaf, fork, none, more, grow, hit, uses, uses_all, count, nth_tree, places_of, front, back, ◌⊕◌}
 use Rattle.trees.specs.Rules.{Level, Degrees, DegreesAll, Keyed, KeyedAll}
-use Rattle.trees.specs.Kept.{pick}
 use Rattle.trees.specs.Moves.{exchange, first_key, inserted, divided}
 use Rattle.trees.proofs.Forests.{uses-⊕}
 use Rattle.shapes.specs.Shape.{occurs, full, full_all, Fine, Grew}
@@ -21,10 +20,12 @@ use Rattle.table.specs.Kids.{kids_of}
 use Rattle.table.specs.Spares.{spares}
 use Rattle.table.specs.Reading.{kept_in, tree_at, inside, Sound, Sounds}
 use Rattle.table.specs.Keys.{key_in}
+use Rattle.table.proofs.Cases.{few}
 use Rattle.table.proofs.Frames.{hit-here, nth-grow, count-grow, front-grow, back-grow, places-at, exchange-grow}
 use Rattle.table.proofs.Steps.{inside_one, kids, below, fork-was, fork-now, other, level-nth, degrees-nth, uses-nth}
-use Rattle.tree.proofs.Picks.{key-tree}
-use Rattle.tree.specs.Places.{key_of_node}
+use Rattle.tree.proofs.Heights.{up}
+use Rattle.tree.proofs.Picks.{key-tree, pick-tree}
+use Rattle.tree.specs.Places.{key_of_node, pick_at}
 use Rattle.tree.proofs.Spared.{spares-kept, all-inside}
 use Rattle.grow.specs.Grown.{Ready, Inserted, most, half}
 use Rattle.table.specs.Nodes.{over}
@@ -53,14 +54,18 @@ module _ {C W : Type 0} where
     all-degrees-weaker (more t ts) a c b le (x, ds) = (degrees-weaker t a c b le x, all-degrees-weaker ts a c b le ds)
 
 -- fine trees whose places are apart are sound
-pub fine-sounds : {C W : Type 0} (n h : ℕ) (ts : Forest C W) → Fine 2 4 h ts → ((q : ℕ) → uses_all ts q ≤ inside n q) → Sounds n h ts
-fine-sounds n h ts f a = record { level = f.level; degrees = all-degrees-weaker ts 2 1 4 (omega arith) f.degrees; apart = a }
+pub fine-sounds : {C W : Type 0} (n : ℕ) {h : ℕ} {ts : Forest C W} → Fine 2 4 h ts → ((q : ℕ) → uses_all ts q ≤ inside n q) → Sounds n h ts
+fine-sounds n {h} {ts} f a = record { level = f.level; degrees = all-degrees-weaker ts 2 1 4 (omega arith) f.degrees; apart = a }
 
-module _ {C W R : Type 0} (m : Meaning C W R) where
-  pub ready-sound : (a : List (Node C R)) (f : Free) (h p : ℕ) → Ready m a f h p → Sound (length a) h (tree_at m a h p)
-  ready-sound a f h p r = record { level = r.level; degrees = degrees-weaker (tree_at m a h p) 2 1 4 (omega arith) r.degrees; apart = λ q. omega (arith, r.apart q) }
+module _ {C W R : Type 0} {m : Meaning C W R} {a : List (Node C R)} {f : Free} where
+  -- a height that is not 0
+  pub ready_up : {H at : ℕ} → (H ≡ 0 → ⊥) → Ready m a f H at → Ready m a f (suc (H - 1)) at
+  ready_up {H} pos r = rw (up H pos) at r
 
-  module _ (a : List (Node C R)) (f : Free) (h at : ℕ) (r : Ready m a f (suc h) at) (n : Node C R) (is : slice_get a at ≡ Some n) where
+  pub ready-sound : {h at : ℕ} → Ready m a f h at → Sound (length a) h (tree_at m a h at)
+  ready-sound {h} {at} r = record { level = r.level; degrees = degrees-weaker (tree_at m a h at) 2 1 4 (omega arith) r.degrees; apart = λ q. omega (arith, r.apart q) }
+
+  module _ {h at : ℕ} (r : Ready m a f (suc h) at) {n : Node C R} (is : slice_get a at ≡ Some n) where
     abbrev qs : List ℕ
     qs = spares a f
 
@@ -140,7 +145,7 @@ module _ {C W R : Type 0} (m : Meaning C W R) where
       apart-now q = omega (arith, uses-now q, apart-was q)
 
       -- in the table
-      module _ (b : List (Node C R)) (g : Free) (o : Option ℕ) (ins : Inserted m a b f g h c x o) (len : length b ≡ length a) where
+      module _ {b : List (Node C R)} {g : Free} {o : Option ℕ} (ins : Inserted m a b f g h c x o) (len : length b ≡ length a) where
         places : places_of grown.0 ≡ c ∷ option_to_list o
         places = sym (ap places_of ins.trees) ∙ places-at m b h (c ∷ option_to_list o)
 
@@ -156,19 +161,20 @@ module _ {C W R : Type 0} (m : Meaning C W R) where
         frame-now q u v = ins.frame q (omega (arith, uses-parts q)) (omega (arith, uses-grown_forest q))
 
         -- by the definition
-        pub inserted-is : i ≡ pick m x.key ts → inserted m most half (suc h) x qs (tree_at m a (suc h) at) ≡ divided m most half (suc h) at (key_in n.own) (kept_in m n) grown_forest grown.1
-        inserted-is e =
+        pub inserted-is : i ≡ pick_at m a x.key ks → inserted m most half (suc h) x qs (tree_at m a (suc h) at) ≡ divided m most half (suc h) at (key_in n.own) (kept_in m n) grown_forest grown.1
+        inserted-is picked =
+            let e = picked ∙ sym (pick-tree m a h x.key ks) in
             ap (inserted m most half (suc h) x qs) was
             ∙ ap (λ j. divided m most half (suc h) at (key_in n.own) (kept_in m n) (exchange j 1 (inserted m most half h x qs (nth_tree j ts)).0 ts) (inserted m most half h x qs (nth_tree j ts)).1) (sym e)
             ∙ ap (λ t. divided m most half (suc h) at (key_in n.own) (kept_in m n) (exchange i 1 (inserted m most half h x qs t).0 ts) (inserted m most half h x qs t).1) child-is
 
         -- ---- the node has room
-        pub fits : (k : Children) (first : Node C R) → kids_of k ≡ take i ks ++ ((c ∷ option_to_list o) ++ drop (i + 1) ks) → slice_get b (get_or (kids_of k) 0 0) ≡ Some first → 0 < length (kids_of k) → length (kids_of k) ≤ 4 → i ≡ pick m x.key ts
+        pub fits : (k : Children) (first : Node C R) → kids_of k ≡ take i ks ++ ((c ∷ option_to_list o) ++ drop (i + 1) ks) → slice_get b (get_or (kids_of k) 0 0) ≡ Some first → i ≡ pick_at m a x.key ks
             → Inserted m a (set b at (over n first.own k)) f g (suc h) at x None
-        fits k first kids-are first-is some few picked =
+        fits k first kids-are first-is picked =
             let e = inserted-is picked ∙ whole grown.1 in
             let d = set b at (over n first.own k) in
-            let within : at < length b = omega (arith, root-within m a f (suc h) at r) in
+            let within : at < length b = omega (arith, root-within r) in
             let u : grow (tree_at m b h) (kids_of k) ≡ grown_forest = ap (grow (tree_at m b h)) kids-are ∙ trees-now in
             let off : uses_all (grow (tree_at m b h) (kids_of k)) at ≡ 0 = ap (λ us. uses_all us at) u ∙ omega (arith, apart-now at, inside_one (length a) at, hit-here at) in
             record {
@@ -181,14 +187,14 @@ module _ {C W R : Type 0} (m : Meaning C W R) where
             }
           where
             counted : count grown_forest ≤ most
-            counted = omega (arith, count-grow (tree_at m b h) (kids_of k), ap count (ap (grow (tree_at m b h)) kids-are ∙ trees-now))
+            counted = omega (arith, few k, count-grow (tree_at m b h) (kids_of k), ap count (ap (grow (tree_at m b h)) kids-are ∙ trees-now))
 
             whole : (rs : List ℕ) → divided m most half (suc h) at (key_in n.own) (kept_in m n) grown_forest rs ≡ (more (fork at (first_key (key_in n.own) grown_forest) (kept_in m n) grown_forest) none, rs)
             whole [] = refl
             whole (q ∷ rs) = cond-true (leb (count grown_forest) most) _ _ (sym (le-true (count grown_forest) most counted))
 
             first_key_lem : first_key (key_in n.own) grown_forest ≡ key_in first.own
-            first_key_lem = sym (ap (first_key (key_in n.own)) (ap (grow (tree_at m b h)) kids-are ∙ trees-now)) ∙ go (kids_of k) some first-is
+            first_key_lem = sym (ap (first_key (key_in n.own)) (ap (grow (tree_at m b h)) kids-are ∙ trees-now)) ∙ go (kids_of k) (omega (arith, length-append (take i ks) ((c ∷ option_to_list o) ++ drop (i + 1) ks), ap length kids-are)) first-is
               where
                 go : (ps : List ℕ) → 0 < length ps → slice_get b (get_or ps 0 0) ≡ Some first → first_key (key_in n.own) (grow (tree_at m b h) ps) ≡ key_in first.own
                 go [] z w = absurd (omega arith)
@@ -204,3 +210,13 @@ module _ {C W R : Type 0} (m : Meaning C W R) where
 
         pub spares-in : AllByRecursion (λ q. q < length b) (spares b g)
         spares-in = all-inside (length b) (spares b g) (λ q. subst (λ k. occurs q (spares b g) ≤ inside k q) (sym len) (subst (λ l. occurs q l ≤ inside (length a) q) (sym ins.spare) (omega (arith, apart-now q))))
+
+-- the first child stays the first, so that a node over these places can be written
+module _ {C W R : Type 0} {m : Meaning C W R} {a : List (Node C R)} {f : Free} {h at : ℕ} (r : Ready m a f (suc h) at) {n : Node C R} (is : slice_get a at ≡ Some n) (i : ℕ) (lt : i < length (kids m n)) (x : Point C W) where
+  pub first-within : (qs : List ℕ) (k : Children) → kids_of k ≡ take i (kids m n) ++ ((get_or (kids m n) i 0 ∷ qs) ++ drop (i + 1) (kids m n)) → (0 < length (kids_of k)) × (get_or (kids_of k) 0 0 < length a)
+  first-within qs k e = rw e (go i (kids m n) lt (root-within (child-ready r is 0 (omega arith) x)))
+    where
+      go : (i : ℕ) (ks : List ℕ) → i < length ks → get_or ks 0 0 < length a → (0 < length (take i ks ++ ((get_or ks i 0 ∷ qs) ++ drop (i + 1) ks))) × (get_or (take i ks ++ ((get_or ks i 0 ∷ qs) ++ drop (i + 1) ks)) 0 0 < length a)
+      go i [] lt w = absurd (omega arith)
+      go zero (k ∷ ks) lt w = (omega arith, w)
+      go (suc i) (k ∷ ks) lt w = (omega arith, w)

@@ -18,7 +18,7 @@ use Rattle.table.proofs.Frames.{nth-set-same, nth-set-other, hit-here, place_at}
 use Rattle.table.proofs.Steps.{inside-lt, inside_one}
 use Rattle.table.specs.Nodes.{bare}
 use Rattle.tree.proofs.Pulls.{leaf-was}
-use Rattle.tree.proofs.Spared.{all-occurring, spares-kept}
+use Rattle.tree.proofs.Spared.{all-inside, spares-kept}
 use Rattle.grow.specs.Grown.{Ready, Inserted, most, half}
 
 uses-root : {C W : Type 0} (t : Tree C W) → 0 < uses t (place_of t)
@@ -26,26 +26,24 @@ uses-root (gone p) = omega (arith, hit-here p)
 uses-root (leaf p x o) = omega (arith, hit-here p)
 uses-root (fork p k o ts) = omega (arith, hit-here p)
 
-module _ {C W R : Type 0} (m : Meaning C W R) (a : List (Node C R)) (f : Free) (h at : ℕ) (r : Ready m a f h at) where
+module _ {C W R : Type 0} {m : Meaning C W R} {a : List (Node C R)} {f : Free} {h at : ℕ} (r : Ready m a f h at) where
   pub root-within : at < length a
   root-within =
       let u : 0 < uses (tree_at m a h at) at = subst (λ q. 0 < uses (tree_at m a h at) q) (place_at m a h at) (uses-root (tree_at m a h at)) in
       inside-lt (length a) at (omega (arith, r.apart at))
 
--- the first free place and the others, by what was taken
-module _ {C W R : Type 0} (m : Meaning C W R) (a : List (Node C R)) (f g : Free) (h at : ℕ) (r : Ready m a f h at) where
   pub spares-within : AllByRecursion (λ q. q < length a) (spares a f)
-  spares-within = all-occurring (λ q. q < length a) (spares a f) (λ q o. inside-lt (length a) q (omega (arith, r.apart q)))
+  spares-within = all-inside (length a) (spares a f) (λ q. omega (arith, r.apart q))
 
-  pub some-spare : 0 < length (spares a f)
-  some-spare = omega (arith, r.room)
+  -- the first free place, by what was taken
+  pub next-within : (g : Free) {q : ℕ} → spares a f ≡ q ∷ spares a g → q < length a
+  next-within g {q} took = inside-lt (length a) q (omega (arith, r.apart q, ap (occurs q) took, hit-here q))
 
-module _ {C W R : Type 0} (m : Meaning C W R) (a : List (Node C R)) (f g : Free) (h at q : ℕ) (r : Ready m a f h at) (took : spares a f ≡ q ∷ spares a g) where
-  pub next-within : q < length a
-  next-within = inside-lt (length a) q (omega (arith, r.apart q, ap (occurs q) took, hit-here q))
+module _ {C W R : Type 0} {m : Meaning C W R} {a : List (Node C R)} {f : Free} {at q : ℕ} (r : Ready m a f 0 at) (g : Free) (took : spares a f ≡ q ∷ spares a g)
+    {n : Node C R} (is : slice_get a at ≡ Some n) (x : Stored C R) (c : Children) where
+  within : at < length a
+  within = root-within r
 
-module _ {C W R : Type 0} (m : Meaning C W R) (a : List (Node C R)) (f g : Free) (at q : ℕ) (r : Ready m a f 0 at) (took : spares a f ≡ q ∷ spares a g)
-    (n : Node C R) (is : slice_get a at ≡ Some n) (x : Stored C R) (c : Children) (within : at < length a) where
   was : tree_at m a 0 at ≡ leaf at (point_in m n.own) (kept_in m n)
   was = leaf-was m a at n is
 
@@ -53,7 +51,7 @@ module _ {C W R : Type 0} (m : Meaning C W R) (a : List (Node C R)) (f g : Free)
   apart z = omega (arith, subst (λ t. uses t z + occurs z (spares a f) ≤ inside (length a) z) was (r.apart z), ap (occurs z) took, inside_one (length a) z)
 
   inside-q : q < length a
-  inside-q = inside-lt (length a) q (omega (arith, r.apart q, ap (occurs q) took, hit-here q))
+  inside-q = next-within r g took
 
   q-not-at : q ≡ at → ⊥
   q-not-at e = omega (arith, apart at, hit-here at, subst (λ z. hit z at ≡ 1) (sym e) (hit-here at))

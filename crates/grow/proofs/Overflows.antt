@@ -1,5 +1,5 @@
 -- A leaf more below a full node, which is split.
-use Rattle.std.proofs.Common.{◌≡◌, ℕ, suc, ◌+◌, ◌-◌, ◌<◌, ◌≤◌, leb, List, [], ◌∷◌, ◌++◌, length, get_or, take, drop, Some, Option, sym, refl, ap, ◌∙◌, subst, append_assoc, arith, length-append, length-drop, length-take}
+use Rattle.std.proofs.Common.{◌≡◌, ℕ, suc, ◌+◌, ◌-◌, ◌<◌, ◌≤◌, leb, List, [], ◌∷◌, ◌++◌, length, get_or, take, drop, Some, sym, ap, ◌∙◌, subst, append_assoc, arith, length-append, length-drop, length-take}
 use borrow.Author.Tests.{lt-leb}
 use Rattle.std.specs.List.{slice_get}
 use Rattle.std.proofs.lemmas.List.{take_more, drop_more, take-append-drop}
@@ -7,7 +7,6 @@ use Rattle.std.proofs.lemmas.Bool.{cond-false}
 use Rattle.kinds.specs.Meaning.{Meaning}
 use Rattle.plain.specs.declared.point.Point.{Point}
 use Rattle.trees.specs.Tree.{Forest, none, more, grow, hit, uses, uses_all, count, front, back, ◌⊕◌}
-use Rattle.trees.specs.Kept.{pick}
 use Rattle.trees.specs.Moves.{settled, inserted, divided, halves, seated}
 use Rattle.trees.proofs.Forests.{uses-⊕, front-back}
 use Rattle.trees.proofs.Bares.{alike-uses_all, seated-bare}
@@ -20,7 +19,7 @@ use Rattle.table.specs.Reading.{kept_in, tree_at, inside, Sounds}
 use Rattle.table.specs.Keys.{key_in}
 use Rattle.table.proofs.Frames.{count-grow, front-grow, back-grow}
 use Rattle.table.proofs.Steps.{inside_one, kids, below}
-use Rattle.tree.proofs.Heights.{up}
+use Rattle.tree.specs.Places.{pick_at}
 use Rattle.tree.proofs.Spared.{spares-kept}
 use Rattle.grow.specs.Grown.{Ready, Inserted, most, half}
 use Rattle.grow.specs.Split.{with_next, under, Apart, Split}
@@ -28,54 +27,32 @@ use Rattle.grow.proofs.Forked.{fine-sounds, was, grown, grown_forest, fine-now, 
 
 -- the places with one more after number i
 pub next-places : (i q : ℕ) (ks : List ℕ) → i < length ks → with_next i q ks ≡ take i ks ++ ((get_or ks i 0 ∷ q ∷ []) ++ drop (i + 1) ks)
-next-places i q ks lt =
-    let one : suc i ≡ i + 1 = omega arith in
-    ap (λ j. take j ks ++ (q ∷ drop j ks)) one
-    ∙ ap (λ l. l ++ (q ∷ drop (i + 1) ks)) (take_more ks i 0 lt)
-    ∙ append_assoc (take i ks) (get_or ks i 0 ∷ []) (q ∷ drop (i + 1) ks)
-
-pub full-four : (n : ℕ) → n ≤ 4 → 4 ≤ n → n ≡ 4
-full-four n h k = omega arith
-
-pub some_next : (i q : ℕ) (ks : List ℕ) → 0 < length (with_next i q ks)
-some_next i q ks = omega (arith, length-append (take (suc i) ks) (q ∷ drop (suc i) ks))
-
--- a height that is not 0
-pub ready_up : {C W R : Type 0} (m : Meaning C W R) (a : List (Node C R)) (f : Free) (H at : ℕ) → (H ≡ 0 → ⊥) → Ready m a f H at → Ready m a f (suc (H - 1)) at
-ready_up m a f H at pos r = subst (λ k. Ready m a f k at) (up H pos) r
-
-pub ready-down : {C W R : Type 0} (m : Meaning C W R) (a b : List (Node C R)) (f g : Free) (H at : ℕ) (x : Point C W) (o : Option ℕ) → (H ≡ 0 → ⊥) → Inserted m a b f g (suc (H - 1)) at x o → Inserted m a b f g H at x o
-ready-down m a b f g H at x o pos ins = subst (λ k. Inserted m a b f g k at x o) (sym (up H pos)) ins
+next-places i q ks lt = ap (λ l. l ++ (q ∷ drop (i + 1) ks)) (take_more ks i 0 lt) ∙ append_assoc (take i ks) (get_or ks i 0 ∷ []) (q ∷ drop (i + 1) ks)
 
 -- the places as they were
 pub same-places : (i : ℕ) (ks : List ℕ) → i < length ks → ks ≡ take i ks ++ ((get_or ks i 0 ∷ []) ++ drop (i + 1) ks)
 same-places i ks lt = sym (take-append-drop i ks) ∙ ap (λ l. take i ks ++ l) (drop_more ks i 0 lt)
 
--- the first place stays the first
-pub first-place : (i q : ℕ) (ks : List ℕ) → 0 < length ks → get_or (with_next i q ks) 0 0 ≡ get_or ks 0 0
-first-place i q [] some = absurd (omega arith)
-first-place i q (k ∷ ks) some = refl
-
-module _ {C W R : Type 0} (m : Meaning C W R) (a : List (Node C R)) (f : Free) (h at : ℕ) (r : Ready m a f (suc h) at) (n : Node C R) (is : slice_get a at ≡ Some n)
-    (i : ℕ) (lt : i < length (kids m n)) (x : Point C W) (b : List (Node C R)) (g : Free) (q : ℕ) (ins : Inserted m a b f g h (get_or (kids m n) i 0) x (Some q)) (len : length b ≡ length a)
-    (full : length (kids m n) ≡ 4) (g' : Free) (next : ℕ) (took : spares b g ≡ next ∷ spares b g') where
+module _ {C W R : Type 0} {m : Meaning C W R} {a : List (Node C R)} {f : Free} {h at : ℕ} (r : Ready m a f (suc h) at) {n : Node C R} (is : slice_get a at ≡ Some n)
+    (i : ℕ) (lt : i < length (kids m n)) (x : Point C W) {b : List (Node C R)} {g : Free} {q : ℕ} (ins : Inserted m a b f g h (get_or (kids m n) i 0) x (Some q)) (len : length b ≡ length a)
+    (full : length (kids m n) ≡ 4) (g' : Free) {next : ℕ} (took : spares b g ≡ next ∷ spares b g') where
   abbrev wider_forest : Forest C W
-  wider_forest = grown_forest m a f h at r n is i lt x
+  wider_forest = grown_forest r is i lt x
 
   abbrev ps : List ℕ
   ps = with_next i q (kids m n)
 
   abbrev rest : List ℕ
-  rest = (grown m a f h at r n is i lt x).1
+  rest = (grown r is i lt x).1
 
   trees : grow (tree_at m b h) ps ≡ wider_forest
-  trees = ap (grow (tree_at m b h)) (next-places i q (kids m n) lt) ∙ trees-now m a f h at r n is i lt x b g (Some q) ins len
+  trees = ap (grow (tree_at m b h)) (next-places i q (kids m n) lt) ∙ trees-now r is i lt x ins len
 
   rest-is : rest ≡ next ∷ spares b g'
   rest-is = sym ins.spare ∙ took
 
   each : (z : ℕ) → hit at z + uses_all wider_forest z + (hit next z + occurs z (spares b g')) ≤ inside (length a) z
-  each z = subst (λ l. hit at z + uses_all wider_forest z + occurs z l ≤ inside (length a) z) rest-is (apart-now m a f h at r n is i lt x z)
+  each z = subst (λ l. hit at z + uses_all wider_forest z + occurs z l ≤ inside (length a) z) rest-is (apart-now r is i lt x z)
 
   five : length ps ≡ 5
   five = ap length (next-places i q (kids m n) lt) ∙ omega (arith, length-append (take i (kids m n)) ((get_or (kids m n) i 0 ∷ q ∷ []) ++ drop (i + 1) (kids m n)), length-take i (kids m n), length-drop (i + 1) (kids m n))
@@ -96,11 +73,11 @@ module _ {C W R : Type 0} (m : Meaning C W R) (a : List (Node C R)) (f : Free) (
   parts z = sym (uses-⊕ (front half wider_forest) (back half wider_forest) z) ∙ ap (λ ts. uses_all ts z) (front-back half wider_forest)
 
   fine : Fine 2 4 h (front half wider_forest ⊕ back half wider_forest)
-  fine = subst (Fine 2 4 h) (sym (front-back half wider_forest)) (fine-now m a f h at r n is i lt x)
+  fine = subst (Fine 2 4 h) (sym (front-back half wider_forest)) (fine-now r is i lt x)
 
   sounds : (ts : Forest C W) → Fine 2 4 h ts → ((z : ℕ) → uses_all ts z ≤ uses_all wider_forest z) → (us : Forest C W) → us ≡ ts → Sounds (length b) (suc h - 1) us
   sounds ts fi le us e =
-      subst (λ j. Sounds (length b) j us) (sym one) (subst (Sounds (length b) h) (sym e) (fine-sounds (length b) h ts fi (λ z. subst (λ k. uses_all ts z ≤ inside k z) (sym len) (omega (arith, each z, le z)))))
+      subst (λ j. Sounds (length b) j us) (sym one) (subst (Sounds (length b) h) (sym e) (fine-sounds (length b) fi (λ z. subst (λ k. uses_all ts z ≤ inside k z) (sym len) (omega (arith, each z, le z)))))
 
   pub ready-to-split : Apart m b (suc h) at next (take half ps) (drop half ps)
   ready-to-split = record {
@@ -116,10 +93,10 @@ module _ {C W R : Type 0} (m : Meaning C W R) (a : List (Node C R)) (f : Free) (
   }
 
   -- what the definition says
-  module _ (picked : i ≡ pick m x.key (below m a h n)) where
+  module _ (picked : i ≡ pick_at m a x.key (kids m n)) where
     result : inserted m most half (suc h) x (spares a f) (tree_at m a (suc h) at) ≡ (seated m (suc h) (kept_in m n) (halves m (suc h) at next (key_in n.own) half wider_forest), spares b g')
     result =
-        inserted-is m a f h at r n is i lt x b g (Some q) ins len picked
+        inserted-is r is i lt x ins len picked
         ∙ ap (divided m most half (suc h) at (key_in n.own) (kept_in m n) wider_forest) rest-is
         ∙ cond-false (leb (count wider_forest) most) _ _ (lt-leb (count wider_forest) most (omega (arith, count-wider_forest)))
 
@@ -137,9 +114,9 @@ module _ {C W R : Type 0} (m : Meaning C W R) (a : List (Node C R)) (f : Free) (
           ∙ sym (ap (λ p. p.0) result);
       spare = spares-kept b d g' len' (λ z o. untouched z (omega (arith, each z, inside_one (length a) z)) (omega (arith, each z, inside_one (length a) z)) (omega (arith, each z, inside_one (length a) z))) ∙ sym (ap (λ p. p.1) result);
       frame = λ z y v.
-          let w : hit at z + uses_all (below m a h n) z ≡ 0 = sym (ap (λ t. uses t z) (was m a f h at r n is)) ∙ y in
+          let w : hit at z + uses_all (below m a h n) z ≡ 0 = sym (ap (λ t. uses t z) (was r is)) ∙ y in
           let s : hit at z + hit next z + uses_all wider_forest z ≡ 0 = sym (shape z) ∙ sym (ap (λ p. uses_all p.0 z) result) ∙ v in
-          untouched z (omega arith) (omega arith) (omega arith) ∙ frame-now m a f h at r n is i lt x b g (Some q) ins len z (omega arith) (omega arith);
+          untouched z (omega arith) (omega arith) (omega arith) ∙ frame-now r is i lt x ins len z (omega arith) (omega arith);
     }
       where
         untouched : (z : ℕ) → hit at z ≡ 0 → hit next z ≡ 0 → uses_all wider_forest z ≡ 0 → slice_get d z ≡ slice_get b z

@@ -1,7 +1,8 @@
 -- A point more in the whole tree: in the table, as in the tree.
-use Rattle.std.proofs.Common.{◌≡◌, ℕ, suc, ◌+◌, ◌-◌, ◌<◌, ◌≤◌, leb, List, [], ◌∷◌, length, set, Some, Option, sym, refl, ap, ◌∙◌, subst, arith, length-set, le-leb}
+use Rattle.std.proofs.Common.{◌≡◌, ℕ, suc, ◌+◌, ◌-◌, ◌<◌, ◌≤◌, leb, List, [], ◌∷◌, length, set, Some, Option, None, sym, refl, ap, ◌∙◌, subst, arith, length-set, le-leb}
 use borrow.Author.Tests.{lt-leb}
 use Rattle.std.specs.List.{AllByRecursion}
+use Rattle.std.specs.Option.{option_to_list}
 use Rattle.std.proofs.lemmas.Bool.{cond-true, cond-false}
 use Rattle.kinds.specs.Meaning.{Meaning}
 use Rattle.plain.specs.declared.point.Point.{Point}
@@ -26,9 +27,9 @@ use Rattle.grow.proofs.Forked.{fine-sounds}
 use Rattle.grow.proofs.Splits.{settled-uses, settled-level, settled-degrees}
 
 -- ---- the first point
-pub planted : {C W R : Type 0} (m : Meaning C W R) (a : List (Node C R)) (f g : Free) (x : Stored C R) (c : Children) (q : ℕ) → spares a f ≡ q ∷ spares a g → q < length a → ((z : ℕ) → occurs z (spares a f) ≤ 1)
+pub planted : {C W R : Type 0} (m : Meaning C W R) (a : List (Node C R)) (f g : Free) (x : Stored C R) (c : Children) {q : ℕ} → spares a f ≡ q ∷ spares a g → q < length a → ((z : ℕ) → occurs z (spares a f) ≤ 1)
     → Planted m a (set a q (keeping (bare x c) (Some x))) f g 0 none (point_in m x) 0 q
-planted m a f g x c q took within apart =
+planted m a f g x c {q} took within apart =
     let n = keeping (bare x c) (Some x) in
     let e = ap (λ qs. with_point m most half 0 (point_in m x) qs none) took in
     record {
@@ -41,8 +42,7 @@ planted m a f g x c q took within apart =
     clash z o w = omega (arith, subst (λ y. 0 < occurs y (spares a g)) w o, subst (λ l. occurs q l ≤ 1) took (apart q), hit-here q)
 
 -- ---- one more
-module _ {C W R : Type 0} (m : Meaning C W R) (a : List (Node C R)) (f : Free) (h root : ℕ) (r : Ready m a f h root) (x : Point C W) (room : suc (suc (full (tree_at m a h root) most)) ≤ length (spares a f))
-    (b : List (Node C R)) (g : Free) (o : Option ℕ) (ins : Inserted m a b f g h root x o) (len : length b ≡ length a) where
+module _ {C W R : Type 0} {m : Meaning C W R} {a : List (Node C R)} {f : Free} {h root : ℕ} (r : Ready m a f h root) (x : Point C W) where
   abbrev t : Tree C W
   t = tree_at m a h root
 
@@ -58,29 +58,30 @@ module _ {C W R : Type 0} (m : Meaning C W R) (a : List (Node C R)) (f : Free) (
   each : (q : ℕ) → uses_all us q + occurs q rs ≤ inside (length a) q
   each q = omega (arith, grew.places q, r.apart q)
 
-  pub us-sound : (ps : List ℕ) → grow (tree_at m b h) ps ≡ us → Sounds (length b) h (grow (tree_at m b h) ps)
-  us-sound ps e = subst (Sounds (length b) h) (sym e) (fine-sounds (length b) h us grew.fine (λ q. subst (λ n. uses_all us q ≤ inside n q) (sym len) (omega (arith, each q))))
+  module _ {b : List (Node C R)} {g : Free} {o : Option ℕ} (ins : Inserted m a b f g h root x o) (len : length b ≡ length a) where
+    pub us-sound : Sounds (length b) h (grow (tree_at m b h) (root ∷ option_to_list o))
+    us-sound = rw (ins.trees, len) (fine-sounds (length a) grew.fine (λ q. omega (arith, each q)))
 
-  pub left_over : 0 < length (spares b g)
-  left_over = omega (arith, room, grew.free, grew.nodes, ap length ins.spare)
+    pub left_over : suc (suc (full (tree_at m a h root) most)) ≤ length (spares a f) → 0 < length (spares b g)
+    left_over room = omega (arith, room, grew.free, grew.nodes, ap length ins.spare)
 
-  pub spares-in : AllByRecursion (λ q. q < length b) (spares b g)
-  spares-in = all-inside (length b) (spares b g) (λ q. subst (λ n. occurs q (spares b g) ≤ inside n q) (sym len) (subst (λ l. occurs q l ≤ inside (length a) q) (sym ins.spare) (omega (arith, each q))))
+    pub spares-in : AllByRecursion (λ q. q < length b) (spares b g)
+    spares-in = all-inside (length b) (spares b g) (λ q. subst (λ n. occurs q (spares b g) ≤ inside n q) (sym len) (subst (λ l. occurs q l ≤ inside (length a) q) (sym ins.spare) (omega (arith, each q))))
 
   -- the root was not split
-  pub grown-one : (d : List (Node C R)) → length d ≡ length b → grow (tree_at m b h) (root ∷ []) ≡ us → Seated m b d h (root ∷ []) (Some x) → Planted m a d f g h (more t none) x h root
-  grown-one d len' e seat = record {
-    forest = seat.trees ∙ ap (seated m h (Some x)) e ∙ sym (ap (λ p. p.0) (result rs));
+  pub grown-one : {b d : List (Node C R)} {g : Free} → Inserted m a b f g h root x None → length d ≡ length b → Seated m b d h (root ∷ []) (Some x) → Planted m a d f g h (more t none) x h root
+  grown-one {b} {d} {g} ins len' seat = record {
+    forest = seat.trees ∙ ap (seated m h (Some x)) ins.trees ∙ sym (ap (λ p. p.0) (result rs));
     height = sym (ap (λ p. p.1) (result rs));
-    spare = spares-kept b d g len' (λ q z. seat.frame q (ap (λ ts. uses_all ts q) e ∙ omega (arith, each q, inside_one (length a) q, subst (λ l. 0 < occurs q l) ins.spare z))) ∙ ins.spare ∙ sym (ap (λ p. p.2) (result rs));
+    spare = spares-kept b d g len' (λ q z. seat.frame q (ap (λ ts. uses_all ts q) ins.trees ∙ omega (arith, each q, inside_one (length a) q, subst (λ l. 0 < occurs q l) ins.spare z))) ∙ ins.spare ∙ sym (ap (λ p. p.2) (result rs));
   }
     where
       result : (qs : List ℕ) → topped m h x us qs ≡ (seated m h (Some x) us, h, qs)
       result [] = refl
-      result (q ∷ qs) = cond-true (leb (count us) 1) _ _ (le-leb (count us) 1 (omega (arith, ap count e)))
+      result (q ∷ qs) = cond-true (leb (count us) 1) _ _ (le-leb (count us) 1 (omega (arith, ap count ins.trees)))
 
   -- it was: a new root over the two
-  module _ (q : ℕ) (e : grow (tree_at m b h) (root ∷ q ∷ []) ≡ us) (g' : Free) (next : ℕ) (took : spares b g ≡ next ∷ spares b g') where
+  module _ {b : List (Node C R)} {g : Free} {q : ℕ} (ins : Inserted m a b f g h root x (Some q)) (len : length b ≡ length a) (g' : Free) {next : ℕ} (took : spares b g ≡ next ∷ spares b g') where
     rest-is : rs ≡ next ∷ spares b g'
     rest-is = sym ins.spare ∙ took
 
@@ -91,10 +92,10 @@ module _ {C W R : Type 0} (m : Meaning C W R) (a : List (Node C R)) (f : Free) (
     one = omega arith
 
     pub under_next : grow (tree_at m b (h + 1 - 1)) (root ∷ q ∷ []) ≡ us
-    under_next = ap (λ j. grow (tree_at m b j) (root ∷ q ∷ [])) one ∙ e
+    under_next = ap (λ j. grow (tree_at m b j) (root ∷ q ∷ [])) one ∙ ins.trees
 
     pub next-sound : Sounds (length b) (h + 1 - 1) (grow (tree_at m b (h + 1 - 1)) (root ∷ q ∷ []))
-    next-sound = subst (λ j. Sounds (length b) j (grow (tree_at m b j) (root ∷ q ∷ []))) (sym one) (us-sound (root ∷ q ∷ []) e)
+    next-sound = subst (λ j. Sounds (length b) j (grow (tree_at m b j) (root ∷ q ∷ []))) (sym one) (us-sound ins len)
 
     pub next-within : next < length b
     next-within = inside-lt (length b) next (subst (λ n. 0 < inside n next) (sym len) (omega (arith, with-next next, hit-here next)))
@@ -102,7 +103,7 @@ module _ {C W R : Type 0} (m : Meaning C W R) (a : List (Node C R)) (f : Free) (
     pub next-off : uses_all (grow (tree_at m b (h + 1 - 1)) (root ∷ q ∷ [])) next ≡ 0
     next-off = ap (λ ts. uses_all ts next) under_next ∙ omega (arith, with-next next, inside_one (length a) next, hit-here next)
 
-    module _ (d : List (Node C R)) (len' : length d ≡ length b) (laid : Laid m b d (h + 1) next (root ∷ q ∷ [])) where
+    module _ {d : List (Node C R)} (len' : length d ≡ length b) (laid : Laid m b d (h + 1) next (root ∷ q ∷ [])) where
       up : h + 1 ≡ suc h
       up = omega arith
 
@@ -115,8 +116,8 @@ module _ {C W R : Type 0} (m : Meaning C W R) (a : List (Node C R)) (f : Free) (
       pub top_sound : Sounds (length d) (h + 1) (grow (tree_at m d (h + 1)) (next ∷ []))
       top_sound =
           let back : suc h - 1 ≡ h = omega arith in
-          let below = subst (λ j. Sounds (length b) j us) (sym back) (subst (Sounds (length b) h) e (us-sound (root ∷ q ∷ []) e)) in
-          let two : count us ≡ 2 = sym (ap count e) in
+          let below = subst (λ j. Sounds (length b) j us) (sym back) (subst (Sounds (length b) h) ins.trees (us-sound ins len)) in
+          let two : count us ≡ 2 = sym (ap count ins.trees) in
           subst (λ u. Sounds (length d) (h + 1) (more u none)) (sym top)
           (subst (λ j. Sounds (length d) j (more (settled m (suc h) next x.key us) none)) (sym up)
           (record {
@@ -125,8 +126,8 @@ module _ {C W R : Type 0} (m : Meaning C W R) (a : List (Node C R)) (f : Free) (
             apart = λ z. subst (λ n. uses (settled m (suc h) next x.key us) z + 0 ≤ inside n z) (sym (len' ∙ len)) (omega (arith, settled-uses m (suc h) next x.key us z, with-next z));
           }))
 
-      pub grown-two : (c : List (Node C R)) → length c ≡ length d → Seated m d c (h + 1) (next ∷ []) (Some x) → Planted m a c f g' h (more t none) x (h + 1) next
-      grown-two c len'' seat = record {
+      pub grown-two : {c : List (Node C R)} → length c ≡ length d → Seated m d c (h + 1) (next ∷ []) (Some x) → Planted m a c f g' h (more t none) x (h + 1) next
+      grown-two {c} len'' seat = record {
         forest = seat.trees ∙ ap (λ u. seated m (h + 1) (Some x) (more u none)) top ∙ ap (λ j. seated m j (Some x) (more (settled m (suc h) next x.key us) none)) up ∙ sym (ap (λ p. p.0) result);
         height = up ∙ sym (ap (λ p. p.1) result);
         spare =
@@ -138,4 +139,4 @@ module _ {C W R : Type 0} (m : Meaning C W R) (a : List (Node C R)) (f : Free) (
           kept = spares-kept b d g' len' (λ z u. laid.frame z (omega (arith, with-next z, inside_one (length a) z)) (ap (λ ts. uses_all ts z) under_next ∙ omega (arith, with-next z, inside_one (length a) z)))
 
           result : topped m h x us rs ≡ (seated m (suc h) (Some x) (more (settled m (suc h) next x.key us) none), suc h, spares b g')
-          result = ap (topped m h x us) rest-is ∙ cond-false (leb (count us) 1) _ _ (lt-leb (count us) 1 (omega (arith, ap count e)))
+          result = ap (topped m h x us) rest-is ∙ cond-false (leb (count us) 1) _ _ (lt-leb (count us) 1 (omega (arith, ap count ins.trees)))

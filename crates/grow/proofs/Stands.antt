@@ -32,7 +32,7 @@ bound h c p l = lt-or h 255 (λ ge. let l15 : 15 ≤ h = omega arith in let q : 
     lt-or : (x y : ℕ) → (y ≤ x → ⊥) → x < y
     lt-or x y never = omega arith
 
-module _ {C W R : Type 0} (m : Meaning C W R) (a : List (Node C R)) (hd : Header) (s : Standing m a hd) (room : 2 * suc hd.count ≤ suc (length a)) where
+module _ {C W R : Type 0} {m : Meaning C W R} {a : List (Node C R)} {hd : Header} (s : Standing m a hd) (room : 2 * suc hd.count ≤ suc (length a)) where
   abbrev f : Forest C W
   f = forest_of m a hd
 
@@ -92,7 +92,7 @@ module _ {C W R : Type 0} (m : Meaning C W R) (a : List (Node C R)) (hd : Header
         go p = bound hd.top.height hd.count (omega (arith, n)) (omega (arith, room, s.small))
 
   -- ---- after
-  module _ (x : Point C W) (b : List (Node C R)) (g : Free) (top : Subtree) (len : length b ≡ length a) (pl : Planted m a b hd.free g hd.top.height f x top.height top.root) where
+  module _ {x : Point C W} {b : List (Node C R)} {g : Free} (top : Subtree) (len : length b ≡ length a) (pl : Planted m a b hd.free g hd.top.height f x top.height top.root) where
     abbrev hd' : Header
     hd' = record { top = top; count = hd.count + 1; free = g }
 
@@ -120,11 +120,11 @@ module _ {C W R : Type 0} (m : Meaning C W R) (a : List (Node C R)) (hd : Header
         (subst (λ j. Whole m j (forest_of m b hd')) (sym pl.height) (subst (Whole m r.1) (sym now) z.0), ap points_all now ∙ z.1)
 
 -- where there is no tree, its height does not matter
-pub any-height : {C W R : Type 0} (m : Meaning C W R) (a b : List (Node C R)) (f g : Free) (h i p : ℕ) (x : Point C W) → 0 < length (spares a f) → Planted m a b f g 0 none x i p → Planted m a b f g h none x i p
-any-height m a b f g h i p x some pl =
+pub any-height : {C W R : Type 0} {m : Meaning C W R} {a b : List (Node C R)} {f g : Free} (h : ℕ) {i p : ℕ} {x : Point C W} → 0 < length (spares a f) → Planted m a b f g 0 none x i p → Planted m a b f g h none x i p
+any-height {m} {a} {b} {f} {g} h {i} {p} {x} some pl =
     let e = go (spares a f) some in
     record { forest = pl.forest ∙ ap (λ r. r.0) e; height = pl.height ∙ ap (λ r. r.1) e; spare = pl.spare ∙ ap (λ r. r.2) e }
   where
     go : (qs : List ℕ) → 0 < length qs → with_point m most half 0 x qs none ≡ with_point m most half h x qs none
     go [] z = absurd (omega arith)
-    go (q ∷ qs) z = refl
+    go (q ∷ ps) z = refl

@@ -1,5 +1,5 @@
 -- One node laid as two over the trees at some places.
-use Rattle.std.specs.Prelude.{◌≡◌, ℕ, ◌+◌, ◌-◌, ◌<◌, ◌≤◌, suc, List, [], ◌∷◌, ◌++◌, length, take, drop, Option}
+use Rattle.std.specs.Prelude.{◌≡◌, ℕ, ◌+◌, ◌-◌, ◌<◌, ◌≤◌, List, [], ◌∷◌, ◌++◌, length, take, drop, Option}
 use Rattle.std.specs.List.{slice_get}
 use Rattle.kinds.specs.Meaning.{Meaning}
 use Rattle.plain.specs.declared.point.Key.{Key}
@@ -11,7 +11,7 @@ use Rattle.table.specs.Reading.{tree_at, inside, Sounds}
 
 -- some places, with q after number i
 abbrev pub with_next : ℕ → ℕ → List ℕ → List ℕ
-with_next i q ps = take (suc i) ps ++ (q ∷ drop (suc i) ps)
+with_next i q ps = take (i + 1) ps ++ (q ∷ drop (i + 1) ps)
 
 module _ {C W R : Type 0} (m : Meaning C W R) where
   -- the trees below a node of height H at the places ps
