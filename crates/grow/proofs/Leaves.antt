@@ -1,10 +1,10 @@
 -- A new leaf beside another: in the table, as in the tree.
 use Rattle.std.proofs.Common.{◌≡◌, ℕ, ◌+◌, ◌<◌, ◌≤◌, true, false, cond, List, [], ◌∷◌, length, set, Some, None, sym, ap, ◌∙◌, subst, arith, length-set}
-use Rattle.std.specs.List.{slice_get, AllByRecursion}
+use Rattle.std.specs.List.{slice_get}
 use Rattle.std.specs.Ordering.{is_lt}
 use Rattle.kinds.specs.Meaning.{Meaning}
 use Rattle.plain.specs.Points.{key_order}
-use Rattle.trees.specs.Tree.{Tree, gone, leaf, fork, none, more, grow, place_of, hit, uses, uses_all}
+use Rattle.trees.specs.Tree.{Tree, leaf, none, more, grow, hit, uses, uses_all}
 use Rattle.trees.specs.Moves.{beside, inserted}
 use Rattle.shapes.specs.Shape.{occurs}
 use Rattle.table.specs.declared.node.Node.{Node}
@@ -14,30 +14,13 @@ use Rattle.table.specs.declared.free.Free.{Free}
 use Rattle.table.specs.Spares.{spares}
 use Rattle.table.specs.Reading.{point_in, kept_in, leaf_of, tree_at, inside}
 use Rattle.table.specs.Keys.{key_in}
-use Rattle.table.proofs.Frames.{nth-set-same, nth-set-other, hit-here, place_at}
-use Rattle.table.proofs.Steps.{inside-lt, inside_one}
+use Rattle.table.proofs.Frames.{nth-set-same, nth-set-other, hit-here}
+use Rattle.table.proofs.Steps.{inside_one}
 use Rattle.table.specs.Nodes.{bare}
 use Rattle.tree.proofs.Pulls.{leaf-was}
-use Rattle.tree.proofs.Spared.{all-inside, spares-kept}
+use Rattle.tree.proofs.Spared.{spares-kept}
+use Rattle.grow.proofs.Readies.{root-within, next-within}
 use Rattle.grow.specs.Grown.{Ready, Inserted, most, half}
-
-uses-root : {C W : Type 0} (t : Tree C W) → 0 < uses t (place_of t)
-uses-root (gone p) = omega (arith, hit-here p)
-uses-root (leaf p x o) = omega (arith, hit-here p)
-uses-root (fork p k o ts) = omega (arith, hit-here p)
-
-module _ {C W R : Type 0} {m : Meaning C W R} {a : List (Node C R)} {f : Free} {h at : ℕ} (r : Ready m a f h at) where
-  pub root-within : at < length a
-  root-within =
-      let u : 0 < uses (tree_at m a h at) at = subst (λ q. 0 < uses (tree_at m a h at) q) (place_at m a h at) (uses-root (tree_at m a h at)) in
-      inside-lt (length a) at (omega (arith, r.apart at))
-
-  pub spares-within : AllByRecursion (λ q. q < length a) (spares a f)
-  spares-within = all-inside (length a) (spares a f) (λ q. omega (arith, r.apart q))
-
-  -- the first free place, by what was taken
-  pub next-within : (g : Free) {q : ℕ} → spares a f ≡ q ∷ spares a g → q < length a
-  next-within g {q} took = inside-lt (length a) q (omega (arith, r.apart q, ap (occurs q) took, hit-here q))
 
 module _ {C W R : Type 0} {m : Meaning C W R} {a : List (Node C R)} {f : Free} {at q : ℕ} (r : Ready m a f 0 at) (g : Free) (took : spares a f ≡ q ∷ spares a g)
     {n : Node C R} (is : slice_get a at ≡ Some n) (x : Stored C R) (c : Children) where

@@ -1,3 +1,4 @@
+pub mod Readies
 pub mod Leaves
 pub mod Forked
 pub mod Splits

@@ -27,10 +27,9 @@ use Rattle.grow.specs.Planted.{Planted}
 
 -- a tree with so few points is low
 bound : (h c : ℕ) → 2 ^ h ≤ c → c < 32768 → h < 255
-bound h c p l = lt-or h 255 (λ ge. let l15 : 15 ≤ h = omega arith in let q : 2 ^ 15 ≤ 2 ^ h = pow_mono l15 in omega (arith, q, p, l))
-  where
-    lt-or : (x y : ℕ) → (y ≤ x → ⊥) → x < y
-    lt-or x y never = omega arith
+bound h c p l =
+    let never : 255 ≤ h → ⊥ = λ ge. let far : 15 ≤ h = omega arith in let q : 2 ^ 15 ≤ 2 ^ h = pow_mono far in omega (arith, q, p, l) in
+    omega arith
 
 module _ {C W R : Type 0} {m : Meaning C W R} {a : List (Node C R)} {hd : Header} (s : Standing m a hd) (room : 2 * suc hd.count ≤ suc (length a)) where
   abbrev f : Forest C W
@@ -47,9 +46,6 @@ module _ {C W R : Type 0} {m : Meaning C W R} {a : List (Node C R)} {hd : Header
 
   pub spares-once : (q : ℕ) → occurs q qs ≤ 1
   spares-once q = omega (arith, s.places q, inside_one (length a) q)
-
-  pub small_count : hd.count < 65535
-  small_count = omega (arith, room, s.small)
 
   -- ---- no point yet
   pub empty : hd.count ≡ 0 → f ≡ none

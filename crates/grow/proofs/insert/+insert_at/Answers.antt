@@ -4,8 +4,8 @@ use Rattle.table.specs.Reading.{point_in}
 use Rattle.table.proofs.Cases.{few}
 use Rattle.table.proofs.Steps.{kids-some, kids-within}
 use Rattle.tree.proofs.Heights.{up}
-use Rattle.grow.proofs.Leaves.{root-within}
-use Rattle.grow.proofs.Forked.{ready_up, ready-sound, child-ready, fits, spare-left, spares-in, first-within}
+use Rattle.grow.proofs.Readies.{ready_up, ready-sound, root-within}
+use Rattle.grow.proofs.Forked.{child-ready, fits, spare-left, spares-in, first-within}
 use Rattle.grow.proofs.Overflows.{next-places, same-places, ready-to-split, split-grown}
 use Rattle.grow.proofs.insert.+insert_at.Goals as goal
 
@@ -18,11 +18,11 @@ pick_child-i-requires g t c =
     record { within = kids-within g.K.Kind.meaning _ _ _ _ c.read-n.ensures sound; some = kids-some g.K.Kind.meaning _ _ _ _ c.read-n.ensures sound }
 
 pub insert_at-requires : goal.insert_at-requires
-insert_at-requires g t c κs within = (omega arith, (within.0, (within.1.0, (within.1.1.0, (within.1.1.1, rw (c.at.ensures) (child-ready (ready_up c.if-tree-eq0.false c.requires) c.read-n.ensures c.pick_child-i.result c.pick_child-i.ensures.below (point_in g.K.Kind.meaning c.args.x)))))))
+insert_at-requires g t c κs within = (omega arith, (within.0, (within.1.0, (within.1.1.0, (within.1.1.1, rw (c.at.ensures) (child-ready (ready_up c.if-tree-eq0.false c.requires) c.read-n.ensures c.pick_child-i.result c.pick_child-i.ensures.below))))))
 
 pub rewrite-requires : goal.rewrite-requires
 rewrite-requires g t c =
-    let first = first-within (ready_up c.if-tree-eq0.false c.requires) c.read-n.ensures c.pick_child-i.result c.pick_child-i.ensures.below (point_in g.K.Kind.meaning c.args.x) [] c.read-n.result.children (same-places c.pick_child-i.result (kids_of c.read-n.result.children) c.pick_child-i.ensures.below) in
+    let first = first-within (ready_up c.if-tree-eq0.false c.requires) c.read-n.ensures c.pick_child-i.result c.pick_child-i.ensures.below [] c.read-n.result.children (same-places c.pick_child-i.result (kids_of c.read-n.result.children) c.pick_child-i.ensures.below) in
     record { within = omega (arith, root-within c.requires, c.insert_at.auto.nodes); some = first.0; first = rw (c.insert_at.auto.nodes) first.1 }
 
 pub returns-in_default : goal.returns-in_default
@@ -32,7 +32,7 @@ returns-in_default g t c =
 
 pub rewrite-requires-then-len-lt4 : goal.rewrite-requires-then-len-lt4
 rewrite-requires-then-len-lt4 g t c =
-    let first = first-within (ready_up c.if-tree-eq0.false c.requires) c.read-n.ensures c.pick_child-i.result c.pick_child-i.ensures.below (point_in g.K.Kind.meaning c.args.x) (c.in-Some.q ∷ []) c.insert.result (c.insert.ensures ∙ next-places c.pick_child-i.result c.in-Some.q (kids_of c.read-n.result.children) c.pick_child-i.ensures.below) in
+    let first = first-within (ready_up c.if-tree-eq0.false c.requires) c.read-n.ensures c.pick_child-i.result c.pick_child-i.ensures.below (c.in-Some.q ∷ []) c.insert.result (c.insert.ensures ∙ next-places c.pick_child-i.result c.in-Some.q (kids_of c.read-n.result.children) c.pick_child-i.ensures.below) in
     record { within = omega (arith, root-within c.requires, c.insert_at.auto.nodes); some = first.0; first = rw (c.insert_at.auto.nodes) first.1 }
 
 pub returns-then-len-lt4 : goal.returns-then-len-lt4
@@ -40,14 +40,11 @@ returns-then-len-lt4 g t c =
     rw (c.rewrite-then-len-lt4.ensures.after, up c.args.tree.height c.if-tree-eq0.false)
     (fits (ready_up c.if-tree-eq0.false c.requires) c.read-n.ensures c.pick_child-i.result c.pick_child-i.ensures.below (point_in g.K.Kind.meaning c.args.x) (rw (c.at.ensures, c.in-Some.is) at c.insert_at.ensures) c.insert_at.auto.nodes c.insert.result c.rewrite-then-len-lt4.ensures.first (c.insert.ensures ∙ next-places c.pick_child-i.result c.in-Some.q (kids_of c.read-n.result.children) c.pick_child-i.ensures.below) c.rewrite-then-len-lt4.ensures.is (rw (c.key.ensures) at c.pick_child-i.ensures.is))
 
-pub take-next-requires : goal.take-next-requires
-take-next-requires g t c =
-    let ins = (rw (c.at.ensures, c.in-Some.is) at c.insert_at.ensures) in
-    record {
-      some = spare-left (ready_up c.if-tree-eq0.false c.requires) c.read-n.ensures c.pick_child-i.result c.pick_child-i.ensures.below (point_in g.K.Kind.meaning c.args.x) ins c.insert_at.auto.nodes (omega (arith, few c.read-n.result.children));
-      within = spares-in (ready_up c.if-tree-eq0.false c.requires) c.read-n.ensures c.pick_child-i.result c.pick_child-i.ensures.below (point_in g.K.Kind.meaning c.args.x) ins c.insert_at.auto.nodes;
-      small = omega (arith, c.requires.small);
-    }
+pub take-next-requires-clause-some : goal.take-next-requires-clause-some
+take-next-requires-clause-some g t c = spare-left (ready_up c.if-tree-eq0.false c.requires) c.read-n.ensures c.pick_child-i.result c.pick_child-i.ensures.below (point_in g.K.Kind.meaning c.args.x) (rw (c.at.ensures, c.in-Some.is) at c.insert_at.ensures) c.insert_at.auto.nodes (omega (arith, few c.read-n.result.children))
+
+pub take-next-requires-clause-within : goal.take-next-requires-clause-within
+take-next-requires-clause-within g t c = spares-in (ready_up c.if-tree-eq0.false c.requires) c.read-n.ensures c.pick_child-i.result c.pick_child-i.ensures.below (point_in g.K.Kind.meaning c.args.x) (rw (c.at.ensures, c.in-Some.is) at c.insert_at.ensures) c.insert_at.auto.nodes
 
 pub halve-requires : goal.halve-requires
 halve-requires g t c =

@@ -2,7 +2,8 @@ use Rattle.std.proofs.Common.{◌≡◌, true, false, arith}
 use Rattle.std.specs.Ordering.{is_lt}
 use Rattle.plain.specs.Points.{key_order}
 use Rattle.table.specs.Keys.{key_in}
-use Rattle.grow.proofs.Leaves.{root-within, spares-within, next-within, leaf-before, leaf-after}
+use Rattle.grow.proofs.Readies.{root-within, spares-within, next-within}
+use Rattle.grow.proofs.Leaves.{leaf-before, leaf-after}
 use Rattle.grow.proofs.leaf.add_leaf.Goals as goal
 
 pub read-old-requires : goal.read-old-requires

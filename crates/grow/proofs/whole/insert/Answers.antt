@@ -5,11 +5,23 @@ use Rattle.grow.proofs.Stands.{spares-in, spares-once, some-spare, empty, one-tr
 use Rattle.grow.proofs.whole.insert.Goals.{then-old-eq0, else-old-eq0}
 use Rattle.grow.proofs.whole.insert.Goals as goal
 
-pub plant-top-requires : goal.plant-top-requires
-plant-top-requires g c = record { small = c.requires.standing.small; some = some-spare c.requires.standing c.requires.room c.if-old-eq0.true; within = spares-in c.requires.standing c.requires.room; apart = spares-once c.requires.standing c.requires.room }
+pub plant-top-requires-clause-some : goal.plant-top-requires-clause-some
+plant-top-requires-clause-some g c = some-spare c.requires.standing c.requires.room c.if-old-eq0.true
 
-pub extend-top-requires : goal.extend-top-requires
-extend-top-requires g c = record { ready = ready c.requires.standing c.requires.room c.if-old-eq0.false; room = enough c.requires.standing c.requires.room c.if-old-eq0.false; low = low c.requires.standing c.requires.room c.if-old-eq0.false }
+pub plant-top-requires-clause-within : goal.plant-top-requires-clause-within
+plant-top-requires-clause-within g c = spares-in c.requires.standing c.requires.room
+
+pub plant-top-requires-clause-apart : goal.plant-top-requires-clause-apart
+plant-top-requires-clause-apart g c = spares-once c.requires.standing c.requires.room
+
+pub extend-top-requires-clause-ready : goal.extend-top-requires-clause-ready
+extend-top-requires-clause-ready g c = ready c.requires.standing c.requires.room c.if-old-eq0.false
+
+pub extend-top-requires-clause-room : goal.extend-top-requires-clause-room
+extend-top-requires-clause-room g c = enough c.requires.standing c.requires.room c.if-old-eq0.false
+
+pub extend-top-requires-clause-low : goal.extend-top-requires-clause-low
+extend-top-requires-clause-low g c = low c.requires.standing c.requires.room c.if-old-eq0.false
 
 pub returns : goal.returns
 returns g c =
