@@ -1,7 +1,5 @@
 -- Lists of places: one place more at the end, and one that changes sides.
 use Rattle.std.proofs.Common.{◌≡◌, ℕ, zero, suc, ◌+◌, ◌<◌, ◌≤◌, Bool, true, false, cond, List, [], ◌∷◌, ◌++◌, length, get_or, take, drop, sym, refl, ap, ◌∙◌, append_assoc, arith}
-use Rattle.std.specs.List.{AllByRecursion}
-use Rattle.std.proofs.ByRecursion.{All-append, All-take, All-drop}
 
 take-zero : (xs : List ℕ) → take 0 xs ≡ []
 take-zero [] = refl
@@ -97,13 +95,16 @@ put_two ps j one lt =
     go (p ∷ q ∷ ps) (suc j) true lt = ap (λ l. p ∷ l) (go (q ∷ ps) j true (omega arith))
     go (p ∷ q ∷ ps) (suc j) false lt = ap (λ l. p ∷ l) (go (q ∷ ps) j false (omega arith))
 
--- the places that are left
-pub all_left : (P : ℕ → Type 0) (i j : ℕ) (ps : List ℕ) → AllByRecursion P ps → AllByRecursion P (take i ps ++ drop j ps)
-all_left P i j ps h = All-append P (take i ps) (drop j ps) (All-take P i ps h) (All-drop P j ps h)
+-- the first of the places that are left
+pub first_left : (P : ℕ → Type 0) (i : ℕ) (ps : List ℕ) → 2 ≤ length ps → ((j : ℕ) → j < length ps → P (get_or ps j 0)) → P (get_or (take i ps ++ drop (i + 1) ps) 0 0)
+first_left P i [] two h = absurd (omega arith)
+first_left P i (p ∷ []) two h = absurd (omega arith)
+first_left P zero (p ∷ q ∷ ps) two h = h 1 (omega arith)
+first_left P (suc i) (p ∷ q ∷ ps) two h = h 0 (omega arith)
 
-pub all-left-if : (P : ℕ → Type 0) (one : Bool) (i j : ℕ) (ps : List ℕ) → AllByRecursion P ps → AllByRecursion P (cond one (take i ps ++ drop j ps) ps)
-all-left-if P true i j ps h = all_left P i j ps h
-all-left-if P false i j ps h = h
+pub first-left-if : (P : ℕ → Type 0) (one : Bool) (i : ℕ) (ps : List ℕ) → 2 ≤ length ps → ((j : ℕ) → j < length ps → P (get_or ps j 0)) → P (get_or (cond one (take i ps ++ drop (i + 1) ps) ps) 0 0)
+first-left-if P true i ps two h = first_left P i ps two h
+first-left-if P false i ps two h = h 0 (omega arith)
 
 pub some_left : (i : ℕ) (ps : List ℕ) → i < length ps → 2 ≤ length ps → 0 < length (take i ps ++ drop (i + 1) ps)
 some_left i [] lt two = absurd (omega arith)

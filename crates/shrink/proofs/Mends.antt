@@ -1,7 +1,7 @@
 -- A node of which one child may have too few children: in the table, as in the tree.
 use Rattle.std.proofs.Common.{◌≡◌, ℕ, suc, ◌+◌, ◌-◌, ◌<◌, ◌≤◌, Bool, false, cond, eqb, List, [], ◌∷◌, ◌++◌, length, get_or, take, drop, Some, Option, sym, ap, ◌∙◌, subst, arith, eqb-true, le-leb}
 use borrow.Author.Tests.{lt-leb, eqb-false}
-use Rattle.std.specs.List.{slice_get, AllByRecursion}
+use Rattle.std.specs.List.{slice_get}
 use Rattle.kinds.specs.Meaning.{Meaning}
 use Rattle.plain.specs.declared.point.Key.{Key}
 use Rattle.plain.specs.declared.point.Point.{Point}
@@ -16,8 +16,8 @@ use Rattle.table.specs.Spares.{spares}
 use Rattle.table.specs.Reading.{kept_in, tree_at}
 use Rattle.table.specs.Keys.{key_in}
 use Rattle.table.proofs.Frames.{hit-here, front-grow, back-grow, nth-grow, count-grow, places-at, exchange-grow}
-use Rattle.table.proofs.Steps.{inside-lt, inside_one, level-nth, degrees-nth}
-use Rattle.tree.proofs.Settles.{trees-within}
+use Rattle.table.proofs.Steps.{inside-lt, inside_one, sound-within, level-nth, degrees-nth}
+use Rattle.tree.proofs.Settles.{tree-sound}
 use Rattle.shapes.proofs.Shrinks.{fork-degrees}
 use Rattle.tree.proofs.Spared.{spares-kept}
 use Rattle.shrink.specs.Joins.{Neighbours, Poor, Spared, Joint}
@@ -25,7 +25,7 @@ use Rattle.shrink.specs.Removes.{Renewed, Mendable, Mended, under}
 use Rattle.shrink.proofs.Lists.{put_two}
 use Rattle.shrink.proofs.Basics.{count-were}
 
-module _ {C W R : Type 0} (m : Meaning C W R) (a : List (Node C R)) (f : Free) (p : ℕ) (n : Node C R) (h i : ℕ) (s : Mendable m a f p n h i) where
+module _ {C W R : Type 0} {m : Meaning C W R} {a : List (Node C R)} {f : Free} {p : ℕ} {n : Node C R} {h i : ℕ} (s : Mendable m a f p n h i) where
   -- the trees of the height below
   abbrev branch_at : ℕ → Tree C W
   branch_at = tree_at m a h
@@ -47,8 +47,8 @@ module _ {C W R : Type 0} (m : Meaning C W R) (a : List (Node C R)) (f : Free) (
   pub node-within : p < length a
   node-within = inside-lt (length a) p (omega (arith, s.apart p, hit-here p))
 
-  pub children-within : AllByRecursion (λ q. q < length a) ps
-  children-within = trees-within m a h ps s.sounds
+  pub child-within : (j : ℕ) → j < length ps → get_or ps j 0 < length a
+  child-within j lt = sound-within m a h (get_or ps j 0) (tree-sound m a h ps s.sounds j lt)
 
   off : uses_all ts p ≡ 0
   off = omega (arith, s.apart p, inside_one (length a) p, hit-here p)
@@ -59,13 +59,13 @@ module _ {C W R : Type 0} (m : Meaning C W R) (a : List (Node C R)) (f : Free) (
   at-index : nth_tree i ts ≡ branch_at (get_or ps i 0)
   at-index = nth-grow branch_at i ps s.index
 
-  module _ (t : Node C R) (is : slice_get a (get_or ps i 0) ≡ Some t) where
+  module _ {t : Node C R} (is : slice_get a (get_or ps i 0) ≡ Some t) where
     child-count : count (children_of (nth_tree i ts)) ≡ length (kids_of t.children)
     child-count = ap (λ u. count (children_of u)) at-index ∙ count-were m a h (get_or ps i 0) up t is
 
     -- ---- the child has enough
-    pub mended-rich : 2 ≤ length (kids_of t.children) → (b : List (Node C R)) → length b ≡ length a → Renewed m a b p n ps → Mended m a b f f p n h i
-    mended-rich rich b len w =
+    pub mended-rich : 2 ≤ length (kids_of t.children) → {b : List (Node C R)} → length b ≡ length a → Renewed m a b p n ps → Mended m a b f f p n h i
+    mended-rich rich {b} len w =
         let e = le-leb 2 (count (children_of (nth_tree i ts))) (omega (arith, child-count)) in
         let u = joined m 4 h k (eqb i 0) (nth_tree (i - 1) ts) (nth_tree (suc (i - 1)) ts) (spares a f) in
         let us = exchange (i - 1) 2 u.0 ts in
@@ -78,7 +78,7 @@ module _ {C W R : Type 0} (m : Meaning C W R) (a : List (Node C R)) (f : Free) (
         }
 
     -- ---- it has one child: it and its neighbour, at the numbers j and j + 1, are joined
-    module _ (poor : length (kids_of t.children) < 2) (j : ℕ) (j-is : j ≡ i - 1) (l r : ℕ) (l-is : l ≡ get_or ps j 0) (r-is : r ≡ get_or ps (j + 1) 0) where
+    module _ (poor : length (kids_of t.children) < 2) {j : ℕ} (j-is : j ≡ i - 1) {l r : ℕ} (l-is : l ≡ get_or ps j 0) (r-is : r ≡ get_or ps (j + 1) 0) where
       one-child : count (children_of (nth_tree i ts)) ≡ 1
       one-child =
           let lt : i < count ts = omega (arith, count-grow branch_at ps, s.index) in
@@ -126,7 +126,7 @@ module _ {C W R : Type 0} (m : Meaning C W R) (a : List (Node C R)) (f : Free) (
       is-spared = record { apart = λ q. omega (arith, counted q, s.apart q); room = s.room }
 
       -- the joined ones stand in the table b
-      module _ (b : List (Node C R)) (len : length b ≡ length a) (g : Free) (one : Bool) (jt : Joint m a b h l r f g (eqb i 0) one) where
+      module _ {b : List (Node C R)} (len : length b ≡ length a) {g : Free} {one : Bool} (jt : Joint m a b h l r f g (eqb i 0) one) where
         -- the two neighbours after, and the places of all children
         abbrev joint : Forest C W
         joint = (joined m 4 h k (eqb i 0) (branch_at l) (branch_at r) (spares a f)).0
@@ -163,8 +163,8 @@ module _ {C W R : Type 0} (m : Meaning C W R) (a : List (Node C R)) (f : Free) (
               (joined m 4 h k (eqb i 0) (x v) (y v) (spares a f)).1,
             )
 
-        pub mended-poor : (c : List (Node C R)) → length c ≡ length b → Renewed m b c p n stay → Mended m a c f g p n h i
-        mended-poor c len' w =
+        pub mended-poor : {c : List (Node C R)} → length c ≡ length b → Renewed m b c p n stay → Mended m a c f g p n h i
+        mended-poor {c} len' w =
             let same = spares-kept b c g len' (λ q u. w.frame q (omega (arith, jt.freed q, counted q, s.apart q, inside_one (length a) q))) in
             record {
               tree = w.tree h k off-now ∙ ap (λ us. fork p (first_key k us) o us) now-below ∙ sym (ap (λ v. v.0) mended-is);

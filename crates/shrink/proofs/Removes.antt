@@ -20,10 +20,10 @@ use Rattle.table.specs.Spares.{spares}
 use Rattle.table.specs.Reading.{kept_in, tree_at, inside, Sound, Sounds}
 use Rattle.table.specs.Keys.{key_in}
 use Rattle.table.proofs.Frames.{hit-here, front-grow, back-grow, nth-grow, count-grow, place_at, exchange-grow}
-use Rattle.table.proofs.Steps.{inside-lt, inside_one, fork-was}
+use Rattle.table.proofs.Steps.{inside-lt, inside_one, sound-within, fork-was}
 use Rattle.tree.specs.Places.{pick_at}
 use Rattle.tree.proofs.Picks.{pick-tree}
-use Rattle.tree.proofs.Settles.{trees-within}
+use Rattle.tree.proofs.Settles.{tree-sound}
 use Rattle.tree.proofs.Spared.{none-occurring, spares-kept}
 use Rattle.shrink.specs.Removes.{Renewed, Mendable, Mended, Ready, Removed, under}
 use Rattle.shrink.proofs.Lists.{put_back}
@@ -129,8 +129,8 @@ module _ {C W R : Type 0} (m : Meaning C W R) (a : List (Node C R)) (f : Free) w
     pub here : p < length a
     here = inside-lt (length a) p (omega (arith, apart p, hit-here p))
 
-    pub within : AllByRecursion (λ q. q < length a) ps
-    within = trees-within m a h ps (record { level = levels; degrees = looser-all ts degrees.2; apart = λ q. omega (arith, apart q) })
+    pub within : (j : ℕ) → j < length ps → get_or ps j 0 < length a
+    within j below = sound-within m a h (get_or ps j 0) (tree-sound m a h ps (record { level = levels; degrees = looser-all ts degrees.2; apart = λ q. omega (arith, apart q) }) j below)
 
     at-child : nth_tree i ts ≡ branch_at c
     at-child = nth-grow branch_at i ps lt

@@ -18,6 +18,7 @@ use Rattle.shapes.proofs.Shrinks.{fork-degrees, removed-shrunk, without-key-chan
 use Rattle.table.specs.declared.node.Node.{Node}
 use Rattle.table.specs.declared.free.Free.{Free}
 use Rattle.table.specs.declared.header.Header.{Header}
+use Rattle.table.specs.declared.subtree.Subtree.{Subtree}
 use Rattle.table.specs.Spares.{spares}
 use Rattle.table.specs.Reading.{tree_at, inside, Sound, Became}
 use Rattle.table.proofs.Frames.{hit-here, place_at}
@@ -25,7 +26,7 @@ use Rattle.table.proofs.Steps.{inside_one, sound-within}
 use Rattle.tree.specs.Standing.{forest_of, points_of, Standing, Ruled}
 use Rattle.tree.proofs.Spared.{none-occurring, spares-kept}
 use Rattle.shrink.specs.Removes.{Ready, Removed}
-use Rattle.shrink.specs.Lowers.{header_of, Lowerable, Lowered}
+use Rattle.shrink.specs.Lowers.{Lowerable, Lowered}
 use Rattle.shrink.proofs.Basics.{uses-children}
 use Rattle.shrink.proofs.Removes.{looser, loose-root, size-some}
 
@@ -37,10 +38,10 @@ some-points h (more t ts) w n = omega (arith, length-append (points t) (points_a
 module _ {C W R : Type 0} (m : Meaning C W R) (a : List (Node C R)) (hd : Header) (st : Standing m a hd) (some : 0 < hd.count) (k : Key C) where
   -- the parts of the header, the tree and the free places
   abbrev tall : ℕ
-  tall = hd.height
+  tall = hd.top.height
 
   abbrev p : ℕ
-  p = hd.root
+  p = hd.top.root
 
   abbrev f : Free
   f = hd.free
@@ -74,20 +75,31 @@ module _ {C W R : Type 0} (m : Meaning C W R) (a : List (Node C R)) (hd : Header
   changed : Changed (forest_of m a hd) qs result.0 result.1 result.2 × (suc (length (points_all result.0)) ≡ length (points_all (forest_of m a hd)))
   changed = without-key-changed m tall k qs (forest_of m a hd) st.holds (ap count one)
 
-  module _ (b : List (Node C R)) (len : length b ≡ length a) (hd' : Header) (fo : forest_of m b hd' ≡ result.0) (ht : hd'.height ≡ result.1) (sp : spares b hd'.free ≡ result.2) (n : hd'.count ≡ hd.count - 1) where
-    pub stands-again : Standing m b hd'
+  -- the table b, a tree and the free places hold just that
+  pub record Left (b : List (Node C R)) (top : Subtree) (g : Free) : Type 0 where
+    pub same : length b ≡ length a
+    pub forest : forest_of m b (record { top = top; count = hd.count - 1; free = g }) ≡ result.0
+    pub height : top.height ≡ result.1
+    pub spares : spares b g ≡ result.2
+
+  module _ (b : List (Node C R)) (top : Subtree) (g : Free) (e : Left b top g) where
+    -- the header after
+    abbrev new : Header
+    new = record { top = top; count = hd.count - 1; free = g }
+
+    pub stands-again : Standing m b new
     stands-again = record {
-      small = omega (arith, st.small);
-      holds = subst (Holds hd'.height) (sym fo) (subst (λ x. Holds x result.0) (sym ht) changed.0.holds);
-      places = λ q. omega (arith, ap (λ v. uses_all v q) fo, ap (occurs q) sp, changed.0.places q, st.places q, ap (λ x. inside x q) len);
-      free = omega (arith, ap size_all fo, ap length sp, changed.0.free, st.free, len);
-      counted = omega (arith, n, st.counted, changed.1, ap (λ v. length (points_all v)) fo);
+      small = omega (arith, st.small, e.same);
+      holds = subst (Holds top.height) (sym e.forest) (subst (λ x. Holds x result.0) (sym e.height) changed.0.holds);
+      places = λ q. omega (arith, ap (λ v. uses_all v q) e.forest, ap (occurs q) e.spares, changed.0.places q, st.places q, ap (λ x. inside x q) e.same);
+      free = omega (arith, ap size_all e.forest, ap length e.spares, changed.0.free, st.free, e.same);
+      counted = omega (arith, st.counted, changed.1, ap (λ v. length (points_all v)) e.forest);
     }
 
-    pub ruled-again : First m → Second m → Ruled m a hd → stands m k (points_of m a hd) ≡ true → Ruled m b hd' × (points_of m b hd' ≡ remove m k (points_of m a hd))
+    pub ruled-again : First m → Second m → Ruled m a hd → stands m k (points_of m a hd) ≡ true → Ruled m b new × (points_of m b new ≡ remove m k (points_of m a hd))
     ruled-again first second r on =
         let w = without-key-whole m first second tall k qs (forest_of m a hd) r on in
-        (subst (Whole m hd'.height) (sym fo) (subst (λ x. Whole m x result.0) (sym ht) w.0), ap points_all fo ∙ w.1)
+        (subst (Whole m top.height) (sym e.forest) (subst (λ x. Whole m x result.0) (sym e.height) w.0), ap points_all e.forest ∙ w.1)
 
   -- ---- the point is not kept any more, in the table b
   module _ (b : List (Node C R)) (len : length b ≡ length a) (bec : Became m a b tall p (take_out m tall k t)) where
@@ -111,27 +123,22 @@ module _ {C W R : Type 0} (m : Meaning C W R) (a : List (Node C R)) (hd : Header
     root-room = omega (arith, ap length free-same, free, st.small)
 
     -- the tree was a leaf, which goes
-    module _ (z : tall ≡ 0) (c : List (Node C R)) (g : Free) (given : spares c g ≡ p ∷ spares b f) where
+    module _ (z : tall ≡ 0) where
       none_left : result ≡ (none, 0, p ∷ qs)
       none_left =
           ap (without_key m 2 4 tall k qs) one
           ∙ subst (λ x. without_key m 2 4 x k qs (more t none) ≡ (none, 0, place_of t ∷ qs)) (sym z) refl
           ∙ ap (λ (x : ℕ). (none, 0, x ∷ qs)) (place_at m a tall p)
 
-      -- the header of no tree
-      abbrev left : Header
-      left = header_of p 0 (hd.count - 1) g
-
-      pub leaf-forest : forest_of m c left ≡ result.0
-      leaf-forest =
+      pub leaf-left : (c : List (Node C R)) → length c ≡ length b → (g : Free) → spares c g ≡ p ∷ spares b f → Left c hd.top g
+      leaf-left c len-c g given =
           let e : hd.count - 1 ≡ 0 = omega (arith, st.counted, changed.1, ap (λ v. length (points_all v.0)) none_left) in
-          cond-true (eqb (hd.count - 1) 0) none (more (tree_at m c 0 p) none) (eq-eqb (hd.count - 1) 0 e) ∙ sym (ap (λ v. v.0) none_left)
-
-      pub leaf-height : 0 ≡ result.1
-      leaf-height = sym (ap (λ v. v.1) none_left)
-
-      pub leaf-spares : spares c g ≡ result.2
-      leaf-spares = given ∙ ap (λ rs. p ∷ rs) free-same ∙ sym (ap (λ v. v.2) none_left)
+          record {
+            same = len-c ∙ len;
+            forest = cond-true (eqb (hd.count - 1) 0) none (more (tree_at m c tall p) none) (eq-eqb (hd.count - 1) 0 e) ∙ sym (ap (λ v. v.0) none_left);
+            height = z ∙ sym (ap (λ v. v.1) none_left);
+            spares = given ∙ ap (λ rs. p ∷ rs) free-same ∙ sym (ap (λ v. v.2) none_left);
+          }
 
     -- the tree is above leaves, of which one goes
     module _ (pos : tall ≡ 0 → ⊥) where
@@ -194,21 +201,20 @@ module _ {C W R : Type 0} (m : Meaning C W R) (a : List (Node C R)) (hd : Header
               room = omega (arith, ap length spares-now, s.free, alike_size taken t like, size-some cut.0, free, st.small);
             }
 
-        module _ (d : List (Node C R)) (g' : Free) (i r : ℕ) (low : Lowered m c d g g' tall p i r) where
+        module _ (d : List (Node C R)) (len-d : length d ≡ length c) (g' : Free) (top : Subtree) (low : Lowered m c d g g' tall p top.height top.root) where
           lowered_is : lowered m tall (tree_at m c tall p) (spares c g) ≡ result
           lowered_is =
               (λ v. lowered m tall (tree-now v) (spares-now v))
               ∙ sym (ap (without_key m 2 4 tall k qs) one
               ∙ subst (λ x. without_key m 2 4 x k qs (more t none) ≡ lowered m x (removed m 2 4 x k qs (take_out m x k t)).0 (removed m 2 4 x k qs (take_out m x k t)).1) (sym up) refl)
 
-          pub fork-forest : forest_of m d (header_of r i (hd.count - 1) g') ≡ result.0
-          fork-forest =
-              let e : more (tree_at m d i r) none ≡ result.0 = low.forest ∙ ap (λ v. v.0) lowered_is in
+          pub fork-left : Left d top g'
+          fork-left =
+              let e : more (tree_at m d top.height top.root) none ≡ result.0 = low.forest ∙ ap (λ v. v.0) lowered_is in
               let n = some-points result.1 result.0 changed.0.holds (subst (λ v. 1 ≤ count v) e (omega arith)) in
-              cond-false (eqb (hd.count - 1) 0) none (more (tree_at m d i r) none) (ne_eqb (hd.count - 1) 0 (λ z. omega (arith, st.counted, changed.1))) ∙ e
-
-          pub fork-height : i ≡ result.1
-          fork-height = low.height ∙ ap (λ v. v.1) lowered_is
-
-          pub fork-spares : spares d g' ≡ result.2
-          fork-spares = low.spares ∙ ap (λ v. v.2) lowered_is
+              record {
+                same = len-d ∙ len-c ∙ len;
+                forest = cond-false (eqb (hd.count - 1) 0) none (more (tree_at m d top.height top.root) none) (ne_eqb (hd.count - 1) 0 (λ z. omega (arith, st.counted, changed.1))) ∙ e;
+                height = low.height ∙ ap (λ v. v.1) lowered_is;
+                spares = low.spares ∙ ap (λ v. v.2) lowered_is;
+              }

@@ -1,4 +1,4 @@
--- A root that may have one child left, and a tree's header: in a table.
+-- A root that may have one child left: in a table.
 use Rattle.std.specs.Prelude.{◌≡◌, ℕ, ◌+◌, ◌<◌, ◌≤◌, List, length}
 use Rattle.kinds.specs.Meaning.{Meaning}
 use Rattle.trees.specs.Tree.{none, more, uses}
@@ -6,13 +6,8 @@ use Rattle.trees.specs.Moves.{lowered}
 use Rattle.shapes.specs.Shape.{occurs}
 use Rattle.table.specs.declared.node.Node.{Node}
 use Rattle.table.specs.declared.free.Free.{Free}
-use Rattle.table.specs.declared.header.Header.{Header}
 use Rattle.table.specs.Spares.{spares}
 use Rattle.table.specs.Reading.{tree_at, inside, Sound}
-
--- a header by its parts
-abbrev pub header_of : ℕ → ℕ → ℕ → Free → Header
-header_of r h n f = record { root = r; height = h; count = n; free = f }
 
 module _ {C W R : Type 0} (m : Meaning C W R) where
   -- a tree above leaves, none of whose places is free

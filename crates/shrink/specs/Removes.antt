@@ -8,17 +8,11 @@ use Rattle.trees.specs.Rules.{Level, Degrees, Keyed}
 use Rattle.trees.specs.Moves.{first_key, mended, removed}
 use Rattle.shapes.specs.Shape.{occurs}
 use Rattle.table.specs.declared.node.Node.{Node}
-use Rattle.table.specs.declared.node.Stored.{Stored}
-use Rattle.table.specs.declared.children.Children.{Children}
 use Rattle.table.specs.declared.free.Free.{Free}
 use Rattle.table.specs.Kids.{kids_of}
 use Rattle.table.specs.Spares.{spares}
 use Rattle.table.specs.Reading.{kept_in, tree_at, inside, Sounds}
 use Rattle.table.specs.Keys.{key_in}
-
--- the node with another key and other children
-abbrev pub over : {C R : Type 0} → Node C R → Stored C R → Children → Node C R
-over n s c = record { own = s; kept = n.kept; children = c; keeps = n.keeps }
 
 module _ {C W R : Type 0} (m : Meaning C W R) where
   -- the node n stands at p over the trees at some places, with the key of the first

@@ -8,18 +8,18 @@ use Rattle.shrink.proofs.Joins.{within-l, within-r, count-l, count-r, all_are, a
 use Rattle.shrink.proofs.join.fuse.Goals as goal
 
 pub read-first-requires : goal.read-first-requires
-read-first-requires g c = within-l g.K.Kind.meaning c.args.nodes.now c.args.height c.args.l c.args.r c.requires.pair
+read-first-requires g c = within-l g.K.Kind.meaning c.args.nodes.now c.args.pair.height c.args.pair.left c.args.pair.right c.requires.pair
 
 pub read-last-requires : goal.read-last-requires
-read-last-requires g c = within-r g.K.Kind.meaning c.args.nodes.now c.args.height c.args.l c.args.r c.requires.pair
+read-last-requires g c = within-r g.K.Kind.meaning c.args.nodes.now c.args.pair.height c.args.pair.left c.args.pair.right c.requires.pair
 
 pub append-requires : goal.append-requires
 append-requires g c =
     let m = g.K.Kind.meaning in
     let a = c.args.nodes.now in
-    let H = c.args.height in
-    let l = c.args.l in
-    let r = c.args.r in
+    let H = c.args.pair.height in
+    let l = c.args.pair.left in
+    let r = c.args.pair.right in
     let s = c.requires.pair in
     omega (arith, c.requires.few, count-l m a H l r s c.read-first.result c.read-first.ensures, count-r m a H l r s c.read-last.result c.read-last.ensures)
 
@@ -27,9 +27,9 @@ pub settle-requires : goal.settle-requires
 settle-requires g c =
     let m = g.K.Kind.meaning in
     let a = c.args.nodes.now in
-    let H = c.args.height in
-    let l = c.args.l in
-    let r = c.args.r in
+    let H = c.args.pair.height in
+    let l = c.args.pair.left in
+    let r = c.args.pair.right in
     let s = c.requires.pair in
     let nl = c.read-first.result in
     let nr = c.read-last.result in
@@ -48,9 +48,9 @@ pub seat_kept-requires : goal.seat_kept-requires
 seat_kept-requires g c =
     let m = g.K.Kind.meaning in
     let a = c.args.nodes.now in
-    let H = c.args.height in
-    let l = c.args.l in
-    let r = c.args.r in
+    let H = c.args.pair.height in
+    let l = c.args.pair.left in
+    let r = c.args.pair.right in
     let s = c.requires.pair in
     let nl = c.read-first.result in
     let nr = c.read-last.result in
@@ -58,8 +58,8 @@ seat_kept-requires g c =
     let e = all_are m a H l r s nl nr c.read-first.ensures c.read-last.ensures cs c.append.ensures in
     let n = few c.append.result in
     record {
-      some = omega (arith, ap length c.one.ensures);
-      sounds = sounds-at m c.settle.new.nodes H (kids_of c.one.result) (l ∷ []) c.one.ensures
+      some = omega (arith, ap length c.of-fused.ensures);
+      sounds = sounds-at m c.settle.new.nodes H (kids_of c.of-fused.result) (l ∷ []) c.of-fused.ensures
           (one-sounds m a H l r s cs [] (all-parts m a H l r s cs e n) (key_in nl.own) c.settle.new.nodes c.settle.auto.nodes (all-some m a H l r s cs e n) n c.settle.ensures);
     }
 
@@ -67,9 +67,9 @@ pub seat_kept-requires-2 : goal.seat_kept-requires-2
 seat_kept-requires-2 g c =
     let m = g.K.Kind.meaning in
     let a = c.args.nodes.now in
-    let H = c.args.height in
-    let l = c.args.l in
-    let r = c.args.r in
+    let H = c.args.pair.height in
+    let l = c.args.pair.left in
+    let r = c.args.pair.right in
     let s = c.requires.pair in
     let nl = c.read-first.result in
     let nr = c.read-last.result in
@@ -77,10 +77,10 @@ seat_kept-requires-2 g c =
     let e = all_are m a H l r s nl nr c.read-first.ensures c.read-last.ensures cs c.append.ensures in
     let n = few c.append.result in
     record {
-      some = omega (arith, ap length c.one-2.ensures);
-      sounds = sounds-at m c.seat_kept.new.nodes H (kids_of c.one-2.result) (l ∷ []) c.one-2.ensures
+      some = omega (arith, ap length c.of-fused.ensures);
+      sounds = sounds-at m c.seat_kept.new.nodes H (kids_of c.of-fused.result) (l ∷ []) c.of-fused.ensures
           (seated-sounds m c.settle.new.nodes c.seat_kept.new.nodes c.seat_kept.auto.nodes H (l ∷ []) (kept_in m nl)
-          (seated-at m c.settle.new.nodes c.seat_kept.new.nodes H (kids_of c.one.result) (l ∷ []) (kept_in m nl) c.one.ensures c.seat_kept.ensures)
+          (seated-at m c.settle.new.nodes c.seat_kept.new.nodes H (kids_of c.of-fused.result) (l ∷ []) (kept_in m nl) c.of-fused.ensures c.seat_kept.ensures)
           (one-sounds m a H l r s cs [] (all-parts m a H l r s cs e n) (key_in nl.own) c.settle.new.nodes c.settle.auto.nodes (all-some m a H l r s cs e n) n c.settle.ensures));
     }
 
@@ -88,9 +88,9 @@ pub give-requires : goal.give-requires
 give-requires g c =
     let m = g.K.Kind.meaning in
     let a = c.args.nodes.now in
-    let H = c.args.height in
-    let l = c.args.l in
-    let r = c.args.r in
+    let H = c.args.pair.height in
+    let l = c.args.pair.left in
+    let r = c.args.pair.right in
     let s = c.requires.pair in
     let nl = c.read-first.result in
     let nr = c.read-last.result in
@@ -100,8 +100,8 @@ give-requires g c =
     let b = c.settle.new.nodes in
     let d = c.seat_kept.new.nodes in
     let z = c.seat_kept-2.new.nodes in
-    let first = seated-at m b d H (kids_of c.one.result) (l ∷ []) (kept_in m nl) c.one.ensures c.seat_kept.ensures in
-    let last = seated-at m d z H (kids_of c.one-2.result) (l ∷ []) (kept_in m nr) c.one-2.ensures c.seat_kept-2.ensures in
+    let first = seated-at m b d H (kids_of c.of-fused.result) (l ∷ []) (kept_in m nl) c.of-fused.ensures c.seat_kept.ensures in
+    let last = seated-at m d z H (kids_of c.of-fused.result) (l ∷ []) (kept_in m nr) c.of-fused.ensures c.seat_kept-2.ensures in
     record {
       within = give-within m a H l r s cs e n c.args.free.now c.requires.spared nl nr c.read-first.ensures c.read-last.ensures (key_in nl.own) b d z c.settle.auto.nodes c.seat_kept.auto.nodes c.seat_kept-2.auto.nodes c.settle.ensures first last;
       apart = give-apart m a H l r s cs e n c.args.free.now c.requires.spared nl nr c.read-first.ensures c.read-last.ensures (key_in nl.own) b d z c.settle.auto.nodes c.seat_kept.auto.nodes c.seat_kept-2.auto.nodes c.settle.ensures first last;
@@ -112,9 +112,9 @@ pub returns : goal.returns
 returns g c =
     let m = g.K.Kind.meaning in
     let a = c.args.nodes.now in
-    let H = c.args.height in
-    let l = c.args.l in
-    let r = c.args.r in
+    let H = c.args.pair.height in
+    let l = c.args.pair.left in
+    let r = c.args.pair.right in
     let s = c.requires.pair in
     let nl = c.read-first.result in
     let nr = c.read-last.result in
@@ -124,6 +124,6 @@ returns g c =
     let b = c.settle.new.nodes in
     let d = c.seat_kept.new.nodes in
     let z = c.seat_kept-2.new.nodes in
-    let first = seated-at m b d H (kids_of c.one.result) (l ∷ []) (kept_in m nl) c.one.ensures c.seat_kept.ensures in
-    let last = seated-at m d z H (kids_of c.one-2.result) (l ∷ []) (kept_in m nr) c.one-2.ensures c.seat_kept-2.ensures in
+    let first = seated-at m b d H (kids_of c.of-fused.result) (l ∷ []) (kept_in m nl) c.of-fused.ensures c.seat_kept.ensures in
+    let last = seated-at m d z H (kids_of c.of-fused.result) (l ∷ []) (kept_in m nr) c.of-fused.ensures c.seat_kept-2.ensures in
     fused m a H l r s cs e n c.args.free.now c.requires.spared nl nr c.read-first.ensures c.read-last.ensures (key_in nl.own) b d z c.settle.auto.nodes c.seat_kept.auto.nodes c.seat_kept-2.auto.nodes c.settle.ensures first last c.give.new.nodes c.give.new.self c.give.ensures.spares c.give.ensures.frame

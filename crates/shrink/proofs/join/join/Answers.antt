@@ -6,10 +6,10 @@ use Rattle.shrink.proofs.Sides.{portion, joint-fused, joint-shared, left-front, 
 use Rattle.shrink.proofs.join.join.Goals as goal
 
 pub read-requires : goal.read-requires
-read-requires g c = within-l g.K.Kind.meaning c.args.nodes.now c.args.height c.args.l c.args.r c.requires.pair
+read-requires g c = within-l g.K.Kind.meaning c.args.nodes.now c.args.pair.height c.args.pair.left c.args.pair.right c.requires.pair
 
 pub read-requires-2 : goal.read-requires-2
-read-requires-2 g c = within-r g.K.Kind.meaning c.args.nodes.now c.args.height c.args.l c.args.r c.requires.pair
+read-requires-2 g c = within-r g.K.Kind.meaning c.args.nodes.now c.args.pair.height c.args.pair.left c.args.pair.right c.requires.pair
 
 pub overflow_add-len : goal.overflow_add-len
 overflow_add-len g c = omega (arith, few c.read.result.children, few c.read-2.result.children, c.len.ensures, c.len-2.ensures)
@@ -18,9 +18,9 @@ pub fuse-requires : goal.fuse-requires
 fuse-requires g c =
     let m = g.K.Kind.meaning in
     let a = c.args.nodes.now in
-    let H = c.args.height in
-    let l = c.args.l in
-    let r = c.args.r in
+    let H = c.args.pair.height in
+    let l = c.args.pair.left in
+    let r = c.args.pair.right in
     let s = c.requires.pair in
     let nl = c.read.result in
     let nr = c.read-2.result in
@@ -32,9 +32,9 @@ pub returns-then-len-lt4 : goal.returns-then-len-lt4
 returns-then-len-lt4 g c =
     let m = g.K.Kind.meaning in
     let a = c.args.nodes.now in
-    let H = c.args.height in
-    let l = c.args.l in
-    let r = c.args.r in
+    let H = c.args.pair.height in
+    let l = c.args.pair.left in
+    let r = c.args.pair.right in
     let s = c.requires.pair in
     let nl = c.read.result in
     let nr = c.read-2.result in
@@ -46,9 +46,9 @@ pub to_left-requires : goal.to_left-requires
 to_left-requires g c =
     let m = g.K.Kind.meaning in
     let a = c.args.nodes.now in
-    let H = c.args.height in
-    let l = c.args.l in
-    let r = c.args.r in
+    let H = c.args.pair.height in
+    let l = c.args.pair.left in
+    let r = c.args.pair.right in
     let s = c.requires.pair in
     let nl = c.read.result in
     let nr = c.read-2.result in
@@ -62,9 +62,9 @@ pub share-requires : goal.share-requires
 share-requires g c =
     let m = g.K.Kind.meaning in
     let a = c.args.nodes.now in
-    let H = c.args.height in
-    let l = c.args.l in
-    let r = c.args.r in
+    let H = c.args.pair.height in
+    let l = c.args.pair.left in
+    let r = c.args.pair.right in
     let s = c.requires.pair in
     let nl = c.read.result in
     let nr = c.read-2.result in
@@ -89,9 +89,9 @@ pub returns-then-left : goal.returns-then-left
 returns-then-left g c =
     let m = g.K.Kind.meaning in
     let a = c.args.nodes.now in
-    let H = c.args.height in
-    let l = c.args.l in
-    let r = c.args.r in
+    let H = c.args.pair.height in
+    let l = c.args.pair.left in
+    let r = c.args.pair.right in
     let s = c.requires.pair in
     let nl = c.read.result in
     let nr = c.read-2.result in
@@ -109,9 +109,9 @@ pub to_right-requires : goal.to_right-requires
 to_right-requires g c =
     let m = g.K.Kind.meaning in
     let a = c.args.nodes.now in
-    let H = c.args.height in
-    let l = c.args.l in
-    let r = c.args.r in
+    let H = c.args.pair.height in
+    let l = c.args.pair.left in
+    let r = c.args.pair.right in
     let s = c.requires.pair in
     let nl = c.read.result in
     let nr = c.read-2.result in
@@ -125,9 +125,9 @@ pub share-requires-2 : goal.share-requires-2
 share-requires-2 g c =
     let m = g.K.Kind.meaning in
     let a = c.args.nodes.now in
-    let H = c.args.height in
-    let l = c.args.l in
-    let r = c.args.r in
+    let H = c.args.pair.height in
+    let l = c.args.pair.left in
+    let r = c.args.pair.right in
     let s = c.requires.pair in
     let nl = c.read.result in
     let nr = c.read-2.result in
@@ -152,9 +152,9 @@ pub returns : goal.returns
 returns g c =
     let m = g.K.Kind.meaning in
     let a = c.args.nodes.now in
-    let H = c.args.height in
-    let l = c.args.l in
-    let r = c.args.r in
+    let H = c.args.pair.height in
+    let l = c.args.pair.left in
+    let r = c.args.pair.right in
     let s = c.requires.pair in
     let nl = c.read.result in
     let nr = c.read-2.result in

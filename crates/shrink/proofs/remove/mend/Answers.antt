@@ -1,104 +1,53 @@
 use Rattle.std.proofs.Common.{◌≡◌, ◌+◌, ◌<◌, length, Some, sym, subst, arith}
-use Rattle.std.specs.List.{slice_get, AllByRecursion}
-use Rattle.std.proofs.ByRecursion.{All-get_or}
+use Rattle.std.specs.List.{slice_get}
 use Rattle.table.specs.Kids.{kids_of}
 use Rattle.shrink.specs.Removes.{Renewed}
-use Rattle.shrink.proofs.Lists.{all-left-if, some-left-if}
-use Rattle.shrink.proofs.Mends.{node-within, children-within, mended-rich, neighbours, is-poor, is-spared, mended-poor}
+use Rattle.shrink.proofs.Lists.{first-left-if, some-left-if}
+use Rattle.shrink.proofs.Renews.{renewed}
+use Rattle.shrink.proofs.Mends.{node-within, child-within, mended-rich, neighbours, is-poor, is-spared, mended-poor}
 use Rattle.shrink.proofs.remove.mend.Goals as goal
 
 pub read-child-requires : goal.read-child-requires
-read-child-requires g c =
-    let m = g.K.Kind.meaning in
-    let a = c.args.nodes.now in
-    let f = c.args.free.now in
-    let p = c.args.at in
-    let n = c.args.n in
-    let h = c.args.height in
-    let i = c.args.i in
-    let s = c.requires in
-    subst (λ q. q < length a) (sym c.at.ensures) (All-get_or (λ q. q < length a) (kids_of n.children) i 0 s.index (children-within m a f p n h i s))
+read-child-requires g c = subst (λ q. q < length c.args.nodes.now) (sym c.at.ensures) (child-within c.requires c.args.i c.requires.index)
 
-pub renew-requires : goal.renew-requires
-renew-requires g c =
-    let m = g.K.Kind.meaning in
-    let a = c.args.nodes.now in
-    let f = c.args.free.now in
-    let p = c.args.at in
-    let n = c.args.n in
-    let h = c.args.height in
-    let i = c.args.i in
+pub rewrite-requires : goal.rewrite-requires
+rewrite-requires g c =
     let s = c.requires in
-    record { here = node-within m a f p n h i s; some = omega (arith, s.two); within = children-within m a f p n h i s }
+    record { within = node-within s; some = omega (arith, s.two); first = child-within s 0 (omega (arith, s.two)) }
 
 pub returns-then-len-ge2 : goal.returns-then-len-ge2
 returns-then-len-ge2 g c =
-    let m = g.K.Kind.meaning in
-    let a = c.args.nodes.now in
-    let f = c.args.free.now in
-    let p = c.args.at in
-    let n = c.args.n in
-    let h = c.args.height in
-    let i = c.args.i in
     let s = c.requires in
-    let is = subst (λ q. slice_get a q ≡ Some c.read-child.result) c.at.ensures c.read-child.ensures in
-    mended-rich m a f p n h i s c.read-child.result is (omega (arith, c.len.ensures, c.if-len-ge2.true)) c.renew.new.nodes c.renew.auto.nodes c.renew.ensures
+    let is = subst (λ q. slice_get c.args.nodes.now q ≡ Some c.read-child.result) c.at.ensures c.read-child.ensures in
+    mended-rich s is (omega (arith, c.len.ensures, c.if-len-ge2.true)) c.rewrite.auto.nodes (renewed g.K.Kind.meaning (node-within s) (omega (arith, s.two)) c.rewrite.ensures)
 
 pub join-one-requires : goal.join-one-requires
 join-one-requires g c =
-    let m = g.K.Kind.meaning in
-    let a = c.args.nodes.now in
-    let f = c.args.free.now in
-    let p = c.args.at in
-    let n = c.args.n in
-    let h = c.args.height in
-    let i = c.args.i in
     let s = c.requires in
-    let is = subst (λ q. slice_get a q ≡ Some c.read-child.result) c.at.ensures c.read-child.ensures in
+    let is = subst (λ q. slice_get c.args.nodes.now q ≡ Some c.read-child.result) c.at.ensures c.read-child.ensures in
     let poor : length (kids_of c.read-child.result.children) < 2 = omega (arith, c.len.ensures, c.if-len-ge2.false) in
-    let j = c.before-j.result in
-    let l = c.at-l.result in
-    let r = c.at-r.result in
-    record { pair = neighbours m a f p n h i s c.read-child.result is poor j c.before-j.ensures l r c.at-l.ensures c.at-r.ensures; poor = is-poor m a f p n h i s c.read-child.result is poor j c.before-j.ensures l r c.at-l.ensures c.at-r.ensures; spared = is-spared m a f p n h i s c.read-child.result is poor j c.before-j.ensures l r c.at-l.ensures c.at-r.ensures }
+    let j = c.saturating_sub-j.ensures in
+    record { pair = neighbours s is poor j c.at-2.ensures c.at-3.ensures; poor = is-poor s is poor j c.at-2.ensures c.at-3.ensures; spared = is-spared s is poor j c.at-2.ensures c.at-3.ensures }
 
-pub renew-requires-2 : goal.renew-requires-2
-renew-requires-2 g c =
-    let m = g.K.Kind.meaning in
-    let a = c.args.nodes.now in
-    let f = c.args.free.now in
-    let p = c.args.at in
-    let n = c.args.n in
-    let h = c.args.height in
-    let i = c.args.i in
+pub rewrite-requires-2 : goal.rewrite-requires-2
+rewrite-requires-2 g c =
     let s = c.requires in
-    let b = c.join-one.new.nodes in
-    let j = c.before-j.result in
-    let one = c.join-one.result in
-    let kids = c.left_over.ensures in
-    let lt : j + 1 < length (kids_of n.children) = omega (arith, c.before-j.ensures, s.index, s.two) in
-    record {
-      here = omega (arith, node-within m a f p n h i s, c.join-one.auto.nodes);
-      some = subst (λ ps. 0 < length ps) (sym kids) (some-left-if one (j + 1) (kids_of n.children) lt s.two);
-      within = subst (λ ps. AllByRecursion (λ q. q < length b) ps) (sym kids) (all-left-if (λ q. q < length b) one (j + 1) (j + 1 + 1) (kids_of n.children) (subst (λ k. AllByRecursion (λ q. q < k) (kids_of n.children)) (sym c.join-one.auto.nodes) (children-within m a f p n h i s)));
-    }
+    let ps = kids_of c.args.n.children in
+    let i = c.saturating_sub-j.result + 1 in
+    let lt : i < length ps = omega (arith, c.saturating_sub-j.ensures, s.index, s.two) in
+    rw (c.left_over.ensures, c.join-one.auto.nodes)
+    (record { within = node-within s; some = some-left-if c.join-one.result i ps lt s.two; first = first-left-if (λ q. q < length c.args.nodes.now) c.join-one.result i ps s.two (child-within s) })
 
 pub returns : goal.returns
 returns g c =
-    let m = g.K.Kind.meaning in
-    let a = c.args.nodes.now in
-    let f = c.args.free.now in
-    let p = c.args.at in
-    let n = c.args.n in
-    let h = c.args.height in
-    let i = c.args.i in
     let s = c.requires in
-    let is = subst (λ q. slice_get a q ≡ Some c.read-child.result) c.at.ensures c.read-child.ensures in
+    let is = subst (λ q. slice_get c.args.nodes.now q ≡ Some c.read-child.result) c.at.ensures c.read-child.ensures in
     let poor : length (kids_of c.read-child.result.children) < 2 = omega (arith, c.len.ensures, c.if-len-ge2.false) in
-    let j = c.before-j.result in
-    let l = c.at-l.result in
-    let r = c.at-r.result in
-    let b = c.join-one.new.nodes in
-    let d = c.renew-2.new.nodes in
-    let one = c.join-one.result in
-    mended-poor m a f p n h i s c.read-child.result is poor j c.before-j.ensures l r c.at-l.ensures c.at-r.ensures b c.join-one.auto.nodes c.join-one.new.free one c.join-one.ensures d c.renew-2.auto.nodes
-    (subst (Renewed m b d p n) c.left_over.ensures c.renew-2.ensures)
+    let ps = kids_of c.args.n.children in
+    let i = c.saturating_sub-j.result + 1 in
+    let lt : i < length ps = omega (arith, c.saturating_sub-j.ensures, s.index, s.two) in
+    let some = subst (λ qs. 0 < length qs) (sym c.left_over.ensures) (some-left-if c.join-one.result i ps lt s.two) in
+    let within = subst (λ k. c.args.tree.root < k) (sym c.join-one.auto.nodes) (node-within s) in
+    let again = renewed g.K.Kind.meaning within some c.rewrite-2.ensures in
+    mended-poor s is poor c.saturating_sub-j.ensures c.at-2.ensures c.at-3.ensures c.join-one.auto.nodes c.join-one.ensures c.rewrite-2.auto.nodes
+    (subst (Renewed g.K.Kind.meaning c.join-one.new.nodes c.rewrite-2.new.nodes c.args.tree.root c.args.n) c.left_over.ensures again)
