@@ -35,16 +35,16 @@ module _ {C W : Type 0} where
     apart = λ q. omega (arith, alike-uses_all us vs e q, s.apart q);
   }
 
-module _ {C W R : Type 0} (m : Meaning C W R) where
-  -- ---- a point joins those kept in some trees, and then another one
-  module _ (b c : List (Node C R)) (len : length c ≡ length b) (h : ℕ) (ps : List ℕ) (o : Option (Point C W)) (first : Seated m b c h ps o) where
+-- ---- a point joins those kept in some trees, and then another one
+module _ {C W R : Type 0} {m : Meaning C W R} where
+  module _ {b c : List (Node C R)} (len : length c ≡ length b) {h : ℕ} {ps : List ℕ} {o : Option (Point C W)} (first : Seated m b c h ps o) where
     pub seated-like : bare_all (grow (tree_at m c h) ps) ≡ bare_all (grow (tree_at m b h) ps)
     seated-like = ap bare_all first.trees ∙ seated-bare m h o (grow (tree_at m b h) ps)
 
     pub seated-sounds : Sounds (length b) h (grow (tree_at m b h) ps) → Sounds (length c) h (grow (tree_at m c h) ps)
     seated-sounds s = subst (λ n. Sounds n h (grow (tree_at m c h) ps)) (sym len) (sounds-alike (length b) h (grow (tree_at m c h) ps) (grow (tree_at m b h) ps) seated-like s)
 
-    module _ (d : List (Node C R)) (o' : Option (Point C W)) (last : Seated m c d h ps o') where
+    module _ {d : List (Node C R)} {o' : Option (Point C W)} (last : Seated m c d h ps o') where
       pub both-seated : grow (tree_at m d h) ps ≡ seated m h o' (seated m h o (grow (tree_at m b h) ps))
       both-seated = last.trees ∙ ap (seated m h o') first.trees
 
@@ -54,14 +54,8 @@ module _ {C W R : Type 0} (m : Meaning C W R) where
       pub both-frame : (q : ℕ) → uses_all (grow (tree_at m b h) ps) q ≡ 0 → slice_get d q ≡ slice_get b q
       both-frame q z = last.frame q (alike-uses_all (grow (tree_at m c h) ps) (grow (tree_at m b h) ps) seated-like q ∙ z) ∙ first.frame q z
 
-  -- at places by another name
-  pub seated-at : (b c : List (Node C R)) (h : ℕ) (ps qs : List ℕ) (o : Option (Point C W)) → ps ≡ qs → Seated m b c h ps o → Seated m b c h qs o
-  seated-at b c h ps qs o e s = subst (λ rs. Seated m b c h rs o) e s
-
-  pub sounds-at : (b : List (Node C R)) (h : ℕ) (ps qs : List ℕ) → ps ≡ qs → Sounds (length b) h (grow (tree_at m b h) qs) → Sounds (length b) h (grow (tree_at m b h) ps)
-  sounds-at b h ps qs e s = subst (λ rs. Sounds (length b) h (grow (tree_at m b h) rs)) (sym e) s
-
-  -- ---- a root read in the table, and its children
+-- ---- a root read in the table, and its children
+module _ {C W R : Type 0} (m : Meaning C W R) where
   module _ (a : List (Node C R)) (H p : ℕ) (up : H ≡ suc (H - 1)) (n : Node C R) (is : slice_get a p ≡ Some n) where
     pub root-was : tree_at m a H p ≡ fork p (key_in n.own) (kept_in m n) (grow (tree_at m a (H - 1)) (kids_of n.children))
     root-was = ap (λ k. tree_at m a k p) up ∙ fork-was m a (H - 1) p n is

@@ -39,7 +39,7 @@ sounds-both n h t u a b room = record {
   apart = λ q. omega (arith, room q);
 }
 
-module _ {C W R : Type 0} (m : Meaning C W R) (a : List (Node C R)) (H l r : ℕ) (s : Neighbours m a H l r) where
+module _ {C W R : Type 0} {m : Meaning C W R} {a : List (Node C R)} {H l r : ℕ} (s : Neighbours m a H l r) where
   -- the two trees, and the trees of the height below
   abbrev tl : Tree C W
   tl = tree_at m a H l
@@ -66,16 +66,16 @@ module _ {C W R : Type 0} (m : Meaning C W R) (a : List (Node C R)) (H l r : ℕ
   counts-r = fork-degrees m 1 4 (omega arith) (omega arith) (H - 1) tr (subst (Level tr) up s.sounds.level.1.0) s.sounds.degrees.1.0
 
   -- the children of both, read in the table
-  pub all_are : (nl nr : Node C R) → slice_get a l ≡ Some nl → slice_get a r ≡ Some nr → (cs : List ℕ) → cs ≡ kids_of nl.children ++ kids_of nr.children → grow branch_at cs ≡ children_of tl ⊕ children_of tr
-  all_are nl nr is-l is-r cs is =
+  pub all_are : {nl nr : Node C R} → slice_get a l ≡ Some nl → slice_get a r ≡ Some nr → (cs : List ℕ) → cs ≡ kids_of nl.children ++ kids_of nr.children → grow branch_at cs ≡ children_of tl ⊕ children_of tr
+  all_are {nl} {nr} is-l is-r cs is =
       ap (grow branch_at) is ∙ grow-append branch_at (kids_of nl.children) (kids_of nr.children)
       ∙ sym (λ i. children-were m a H l up nl is-l i ⊕ children-were m a H r up nr is-r i)
 
-  pub count-l : (nl : Node C R) → slice_get a l ≡ Some nl → count (children_of tl) ≡ length (kids_of nl.children)
-  count-l nl is = count-were m a H l up nl is
+  pub count-l : {nl : Node C R} → slice_get a l ≡ Some nl → count (children_of tl) ≡ length (kids_of nl.children)
+  count-l {nl} is = count-were m a H l up nl is
 
-  pub count-r : (nr : Node C R) → slice_get a r ≡ Some nr → count (children_of tr) ≡ length (kids_of nr.children)
-  count-r nr is = count-were m a H r up nr is
+  pub count-r : {nr : Node C R} → slice_get a r ≡ Some nr → count (children_of tr) ≡ length (kids_of nr.children)
+  count-r {nr} is = count-were m a H r up nr is
 
   root-r : 0 < uses tr r
   root-r = omega (arith, uses-children tr r, ap (λ p. hit p r) (place_at m a H r), hit-here r)
@@ -117,7 +117,7 @@ module _ {C W R : Type 0} (m : Meaning C W R) (a : List (Node C R)) (H l r : ℕ
     right-off = omega (arith, once r, inside_one (length a) r, hit-here r)
 
     -- the first part is laid below l
-    module _ (k : Key C) (b : List (Node C R)) (len : length b ≡ length a) (some : 0 < length xs) (few : length xs ≤ 4) (laid : Laid m a b H l xs) where
+    module _ (k : Key C) {b : List (Node C R)} (len : length b ≡ length a) (some : 0 < length xs) (few : length xs ≤ 4) (laid : Laid m a b H l xs) where
       left-like : bare_all (grow (tree_at m b H) (l ∷ [])) ≡ bare_all (more (fork l (first_key k (grow branch_at xs)) None (grow branch_at xs)) none)
       left-like = ap (λ t. more (bare t) none) (laid.tree k) ∙ ap (λ t. more t none) (pull-bare m H (fork l (first_key k (grow branch_at xs)) None (grow branch_at xs)))
 
@@ -140,7 +140,7 @@ module _ {C W R : Type 0} (m : Meaning C W R) (a : List (Node C R)) (H l r : ℕ
       right-off-now = ap (λ ts. uses_all ts r) still-right ∙ right-off
 
       -- and the second below r
-      module _ (c : List (Node C R)) (len' : length c ≡ length b) (some' : 0 < length ys) (few' : length ys ≤ 4) (laid' : Laid m b c H r ys) where
+      module _ {c : List (Node C R)} (len' : length c ≡ length b) (some' : 0 < length ys) (few' : length ys ≤ 4) (laid' : Laid m b c H r ys) where
         still-left : tree_at m c H l ≡ tree_at m b H l
         still-left = same-tree m b c H l (λ q u. laid'.frame q (omega (arith, left-uses q, once q, inside_one (length a) q)) (ap (λ ts. uses_all ts q) still-right ∙ omega (arith, left-uses q, once q, inside_one (length a) q)))
 
@@ -174,19 +174,19 @@ module _ {C W R : Type 0} (m : Meaning C W R) (a : List (Node C R)) (H l r : ℕ
             (λ q. omega (arith, once q))))
 
         -- the points that l and r kept join in
-        module _ (nl nr : Node C R) (is-l : slice_get a l ≡ Some nl) (is-r : slice_get a r ≡ Some nr) (d z : List (Node C R)) (len-d : length d ≡ length c)
+        module _ {nl nr : Node C R} (is-l : slice_get a l ≡ Some nl) (is-r : slice_get a r ≡ Some nr) {d z : List (Node C R)} (len-d : length d ≡ length c)
             (first : Seated m c d H (l ∷ r ∷ []) (kept_in m nl)) (last : Seated m d z H (l ∷ r ∷ []) (kept_in m nr)) where
           pub shared : Shared m a z H l r xs ys
           shared =
               let kept-l : kept_in m nl ≡ kept_by tl = sym (kept-tree m a H l ∙ ap (kept_of_node m) is-l) in
               let kept-r : kept_in m nr ≡ kept_by tr = sym (kept-tree m a H r ∙ ap (kept_of_node m) is-r) in
-              let like = both-like m c d len-d H (l ∷ r ∷ []) (kept_in m nl) first z (kept_in m nr) last in
+              let like = both-like len-d first last in
               record {
-                trees = λ j. both-seated m c d len-d H (l ∷ r ∷ []) (kept_in m nl) first z (kept_in m nr) last
+                trees = λ j. both-seated len-d first last
                     ∙ (λ i. seated m H (kept-r i) (seated m H (kept-l i) (two-are j i)));
                 framed = record {
                   frame = λ q x y.
-                      both-frame m c d len-d H (l ∷ r ∷ []) (kept_in m nl) first z (kept_in m nr) last q (omega (arith, two-uses q))
+                      both-frame len-d first last q (omega (arith, two-uses q))
                       ∙ laid'.frame q (omega (arith, spread q)) (ap (λ ts. uses_all ts q) still-right ∙ omega (arith, spread q))
                       ∙ laid.frame q (omega (arith, spread q)) (omega (arith, spread q));
                   within = λ q. omega (arith, alike-uses_all (grow (tree_at m z H) (l ∷ r ∷ [])) (grow (tree_at m c H) (l ∷ r ∷ [])) like q, two-uses q);
@@ -201,21 +201,21 @@ module _ {C W R : Type 0} (m : Meaning C W R) (a : List (Node C R)) (H l r : ℕ
     pub all-some : 0 < length cs
     all-some = omega (arith, count-grow branch_at cs, ap count e, count-⊕ (children_of tl) (children_of tr), counts-l.0)
 
-    module _ (f : Free) (sp : Spared m a f H (l ∷ r ∷ [])) (nl nr : Node C R) (is-l : slice_get a l ≡ Some nl) (is-r : slice_get a r ≡ Some nr)
-        (k : Key C) (b c d : List (Node C R)) (len-b : length b ≡ length a) (len-c : length c ≡ length b) (len-d : length d ≡ length c)
+    module _ {f : Free} (sp : Spared m a f H (l ∷ r ∷ [])) {nl nr : Node C R} (is-l : slice_get a l ≡ Some nl) (is-r : slice_get a r ≡ Some nr)
+        (k : Key C) {b c d : List (Node C R)} (len-b : length b ≡ length a) (len-c : length c ≡ length b) (len-d : length d ≡ length c)
         (laid : Laid m a b H l cs) (first : Seated m b c H (l ∷ []) (kept_in m nl)) (last : Seated m c d H (l ∷ []) (kept_in m nr)) where
       like : bare_all (grow (tree_at m d H) (l ∷ [])) ≡ bare_all (grow (tree_at m b H) (l ∷ []))
-      like = both-like m b c len-c H (l ∷ []) (kept_in m nl) first d (kept_in m nr) last
+      like = both-like len-c first last
 
       uses-b : (q : ℕ) → uses_all (grow (tree_at m b H) (l ∷ [])) q ≡ hit l q + uses_all (grow branch_at cs) q + 0
-      uses-b = left-uses cs [] all-parts k b len-b all-some few laid
+      uses-b = left-uses cs [] all-parts k len-b all-some few laid
 
       uses-d : (q : ℕ) → uses_all (grow (tree_at m d H) (l ∷ [])) q ≡ hit l q + uses_all (grow branch_at cs) q + 0
       uses-d q = alike-uses_all (grow (tree_at m d H) (l ∷ [])) (grow (tree_at m b H) (l ∷ [])) like q ∙ uses-b q
 
       frame-d : (q : ℕ) → uses tl q ≡ 0 → uses tr q ≡ 0 → slice_get d q ≡ slice_get a q
       frame-d q x y =
-          both-frame m b c len-c H (l ∷ []) (kept_in m nl) first d (kept_in m nr) last q (omega (arith, uses-b q, spread cs [] all-parts q))
+          both-frame len-c first last q (omega (arith, uses-b q, spread cs [] all-parts q))
           ∙ laid.frame q (omega (arith, spread cs [] all-parts q)) (omega (arith, spread cs [] all-parts q))
 
       free-same : spares d f ≡ spares a f
@@ -230,8 +230,8 @@ module _ {C W R : Type 0} (m : Meaning C W R) (a : List (Node C R)) (H l r : ℕ
       pub give-room : length (spares d f) < 65535
       give-room = subst (λ qs. length qs < 65535) (sym free-same) sp.room
 
-      pub fused : (z : List (Node C R)) (g : Free) → spares z g ≡ r ∷ spares d f → ((q : ℕ) → (q ≡ r → ⊥) → slice_get z q ≡ slice_get d q) → Fused m a z H l r f g
-      fused z g given frame =
+      pub fused : {z : List (Node C R)} {g : Free} → spares z g ≡ r ∷ spares d f → ((q : ℕ) → (q ≡ r → ⊥) → slice_get z q ≡ slice_get d q) → Fused m a z H l r f g
+      fused {z} {g} given frame =
           let kept-l : kept_in m nl ≡ kept_by tl = sym (kept-tree m a H l ∙ ap (kept_of_node m) is-l) in
           let kept-r : kept_in m nr ≡ kept_by tr = sym (kept-tree m a H r ∙ ap (kept_of_node m) is-r) in
           let off : uses_all (grow (tree_at m d H) (l ∷ [])) r ≡ 0 = uses-d r ∙ omega (arith, once cs [] all-parts r, inside_one (length a) r, hit-here r) in
@@ -239,7 +239,7 @@ module _ {C W R : Type 0} (m : Meaning C W R) (a : List (Node C R)) (H l r : ℕ
           let one : (j : Key C) → grow (tree_at m b H) (l ∷ []) ≡ more (settled m H l j (children_of tl ⊕ children_of tr)) none =
           λ j. ap (λ t. more t none) (laid.tree j ∙ ap (settled m H l j) e) in
           record {
-            tree = λ j. still ∙ both-seated m b c len-c H (l ∷ []) (kept_in m nl) first d (kept_in m nr) last ∙ (λ i. seated m H (kept-r i) (seated m H (kept-l i) (one j i)));
+            tree = λ j. still ∙ both-seated len-c first last ∙ (λ i. seated m H (kept-r i) (seated m H (kept-l i) (one j i)));
             spares = given ∙ ap (λ qs. r ∷ qs) free-same;
             framed = record {
               frame = λ q x y. frame q (λ v. let u = subst (λ p. uses tr p ≡ 0) v y in omega (arith, root-r)) ∙ frame-d q x y;

@@ -79,7 +79,7 @@ module _ {C W R : Type 0} (m : Meaning C W R) (a : List (Node C R)) (f : Free) (
         let x : lowered m H t (spares a f) ≡ (seated m (H - 1) (kept_in m n) (grow (tree_at m a (H - 1)) ps), H - 1, p ∷ spares a f) =
         λ i. cond (e i) (more t none, H, spares a f) (seated m (H - 1) (k i) (children-were m a H p up n is i), H - 1, place_at m a H p i ∷ spares a f) in
         let off : uses_all (grow (tree_at m b (H - 1)) ps) p ≡ 0 =
-        alike-uses_all (grow (tree_at m b (H - 1)) ps) (grow (tree_at m a (H - 1)) ps) (seated-like m a b len (H - 1) ps (kept_in m n) st) p
+        alike-uses_all (grow (tree_at m b (H - 1)) ps) (grow (tree_at m a (H - 1)) ps) (seated-like len st) p
         ∙ omega (arith, s.apart p, counted p, hit-here p, inside_one (length a) p) in
         let still = same-trees m b c (H - 1) ps (λ q u. frame q (not_there (uses_all (grow (tree_at m b (H - 1)) ps)) p off q u)) in
         let one : r ∷ [] ≡ ps = ap (λ (q : ℕ). q ∷ []) r-is ∙ single ps some poor in

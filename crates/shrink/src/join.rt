@@ -1,6 +1,6 @@
 // Two neighbours of which one has a child too few: they become one node, or one child changes
 // sides.
-ghost use Rattle.std.specs.Prelude.{◌≡◌, ◌+◌, ◌-◌, ◌<◌, ◌≤◌, true, false, [], ◌∷◌, ◌++◌, length, take, drop, slice_index};
+ghost use Rattle.std.specs.Prelude.{◌≡◌, ◌+◌, ◌-◌, ◌<◌, ◌≤◌, true, false, [], ◌∷◌, ◌++◌, length};
 ghost use Rattle.trees.specs.Tree.{◌⊕◌, grow, count, children_of};
 ghost use Rattle.table.specs.Kids.{kids_of};
 ghost use Rattle.table.specs.Reading.{tree_at};
@@ -24,8 +24,8 @@ pub struct Pair {
 // The first child of the right node goes to the left one, as its last.
 fn to_left(ls: Children, rs: Children) -> Sides
     requires { (length (kids_of ls) < 4) × (0 < length (kids_of rs)) }
-    ensures left { kids_of result.left ≡ take (length (kids_of ls)) (kids_of ls) ++ (slice_index (kids_of rs) 0 ∷ drop (length (kids_of ls)) (kids_of ls)) }
-    ensures right { kids_of result.right ≡ drop 1 (kids_of rs) }
+    ensures same { kids_of result.left ++ kids_of result.right ≡ kids_of ls ++ kids_of rs }
+    ensures more { length (kids_of result.left) ≡ length (kids_of ls) + 1 }
 {
     Sides {
         left: ls.insert(ls.len(), rs.at(0)),
@@ -36,8 +36,8 @@ fn to_left(ls: Children, rs: Children) -> Sides
 // The last child of the left node goes to the right one, as its first.
 fn to_right(ls: Children, rs: Children) -> Sides
     requires { (0 < length (kids_of ls)) × (length (kids_of rs) < 4) }
-    ensures left { kids_of result.left ≡ take (length (kids_of ls) - 1) (kids_of ls) }
-    ensures right { kids_of result.right ≡ take 0 (kids_of rs) ++ (slice_index (kids_of ls) (length (kids_of ls) - 1) ∷ drop 0 (kids_of rs)) }
+    ensures same { kids_of result.left ++ kids_of result.right ≡ kids_of ls ++ kids_of rs }
+    ensures less { length (kids_of result.left) ≡ length (kids_of ls) - 1 }
 {
     let last = ls.len() - 1;
     Sides {
