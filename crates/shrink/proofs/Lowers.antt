@@ -26,7 +26,7 @@ single [] some few = absurd (omega arith)
 single (p ∷ []) some few = refl
 single (p ∷ q ∷ ps) some few = absurd (omega arith)
 
-module _ {C W R : Type 0} (m : Meaning C W R) (a : List (Node C R)) (f : Free) (H p : ℕ) (s : Lowerable m a f H p) (n : Node C R) (is : slice_get a p ≡ Some n) where
+module _ {C W R : Type 0} {m : Meaning C W R} {a : List (Node C R)} {f : Free} {H p : ℕ} (s : Lowerable m a f H p) {n : Node C R} (is : slice_get a p ≡ Some n) where
   -- the tree, and the places of its children
   abbrev t : Tree C W
   t = tree_at m a H p
@@ -59,7 +59,7 @@ module _ {C W R : Type 0} (m : Meaning C W R) (a : List (Node C R)) (f : Free) (
       record { forest = sym (ap (λ v. v.0) x); height = sym (ap (λ v. v.1) x); spares = sym (ap (λ v. v.2) x) }
 
   -- ---- the point that the root kept has moved down, in the table b
-  module _ (poor : length ps < 2) (b : List (Node C R)) (len : length b ≡ length a) (st : Seated m a b (H - 1) ps (kept_in m n)) where
+  module _ (poor : length ps < 2) {b : List (Node C R)} (len : length b ≡ length a) (st : Seated m a b (H - 1) ps (kept_in m n)) where
     free-same : spares b f ≡ spares a f
     free-same = spares-kept a b f len (λ q u. st.frame q (omega (arith, s.apart q, counted q, inside_one (length a) q)))
 
@@ -72,8 +72,8 @@ module _ {C W R : Type 0} (m : Meaning C W R) (a : List (Node C R)) (f : Free) (
     pub root-room : length (spares b f) < 65535
     root-room = subst (λ qs. length qs < 65535) (sym free-same) s.room
 
-    pub root-gone : (c : List (Node C R)) (g : Free) (r : ℕ) → r ≡ get_or ps 0 0 → spares c g ≡ p ∷ spares b f → ((q : ℕ) → (q ≡ p → ⊥) → slice_get c q ≡ slice_get b q) → Lowered m a c f g H p (H - 1) r
-    root-gone c g r r-is given frame =
+    pub root-gone : {c : List (Node C R)} {g : Free} {r : ℕ} → r ≡ get_or ps 0 0 → spares c g ≡ p ∷ spares b f → ((q : ℕ) → (q ≡ p → ⊥) → slice_get c q ≡ slice_get b q) → Lowered m a c f g H p (H - 1) r
+    root-gone {c} {g} {r} r-is given frame =
         let e = lt-leb 2 (count (children_of t)) (omega (arith, counts, poor)) in
         let k : kept_by t ≡ kept_in m n = kept-tree m a H p ∙ ap (kept_of_node m) is in
         let x : lowered m H t (spares a f) ≡ (seated m (H - 1) (kept_in m n) (grow (tree_at m a (H - 1)) ps), H - 1, p ∷ spares a f) =

@@ -51,6 +51,24 @@ module _ {C W : Type 0} where
   size-some (leaf p x o) = omega arith
   size-some (fork p k o ts) = omega arith
 
+-- a tree above leaves that loses one
+module _ {C W R : Type 0} (m : Meaning C W R) where
+  pub root-degrees : (h : ℕ) → 0 < h → (t : Tree C W) → Level t h → Degrees t 2 4 → (2 ≤ count (children_of t)) × (count (children_of t) ≤ 4) × DegreesAll (children_of t) 2 4
+  root-degrees h above t level degrees = let up : h ≡ suc (h - 1) = omega arith in fork-degrees m 2 4 (omega arith) (omega arith) (h - 1) t (subst (Level t) up level) degrees
+
+  pub cut-shrunk : (h : ℕ) → 0 < h → (k : Key C) (qs : List ℕ) (t : Tree C W) → Level t h → Degrees t 2 4 → Keyed t → Shrunk 2 4 h qs t (removed m 2 4 h k qs t).0 (removed m 2 4 h k qs t).1
+  cut-shrunk h above k qs t level degrees keyed =
+      let up : h ≡ suc (h - 1) = omega arith in
+      let down : suc (h - 1) ≡ h = omega arith in
+      let d = root-degrees h above t level degrees in
+      subst (λ x. Shrunk 2 4 x qs t (removed m 2 4 x k qs t).0 (removed m 2 4 x k qs t).1) down
+      (removed-shrunk m 2 4 (omega arith) (omega arith) (omega arith) (h - 1) k qs t (subst (Level t) up level) keyed d.0 d.2)
+
+  removed-deep : (h : ℕ) → 0 < h → (p : ℕ) (j : Key C) (o : Option (Point C W)) (ts : Forest C W) (k : Key C) (qs : List ℕ) → removed m 2 4 (suc h) k qs (fork p j o ts)
+      ≡ mended m 2 4 h p j o (pick m k ts) (exchange (pick m k ts) 1 (more (removed m 2 4 h k qs (nth_tree (pick m k ts) ts)).0 none) ts) (removed m 2 4 h k qs (nth_tree (pick m k ts) ts)).1
+  removed-deep zero above p j o ts k qs = absurd (omega arith)
+  removed-deep (suc h) above p j o ts k qs = refl
+
 -- no free place is taken
 module _ {C W R : Type 0} (m : Meaning C W R) (q : ℕ) where
   joined-frees : (h : ℕ) (k : Key C) (left : Bool) (l r : Tree C W) (qs : List ℕ) → occurs q qs ≤ occurs q (joined m 4 h k left l r qs).1
@@ -78,12 +96,19 @@ module _ {C W R : Type 0} (m : Meaning C W R) (q : ℕ) where
       let r = removed m 2 4 (suc h) k qs (nth_tree i ts) in
       omega (arith, removed-frees (suc h) k qs (nth_tree i ts), mended-frees (suc h) p j o i (exchange i 1 (more r.0 none) ts) r.1)
 
-module _ {C W R : Type 0} (m : Meaning C W R) (a : List (Node C R)) (f : Free) where
-  pub ready-sound : (h p : ℕ) → Ready m a f h p → Sound (length a) h (tree_at m a h p)
-  ready-sound h p s = record { level = s.level; degrees = looser (tree_at m a h p) s.degrees; apart = λ q. omega (arith, s.apart q) }
+module _ {C W R : Type 0} {m : Meaning C W R} {a : List (Node C R)} {f : Free} where
+  pub ready-sound : {h p : ℕ} → Ready m a f h p → Sound (length a) h (tree_at m a h p)
+  ready-sound {h} {p} s = record { level = s.level; degrees = looser (tree_at m a h p) s.degrees; apart = λ q. omega (arith, s.apart q) }
+
+  -- a height above leaves is one more than another
+  pub ready-up : {h p : ℕ} → Ready m a f h p → Ready m a f (suc (h - 1)) p
+  ready-up {h} {p} s = let up : h ≡ suc (h - 1) = omega (arith, s.above) in subst (λ x. Ready m a f x p) up s
+
+  pub removed-down : {h p : ℕ} {b : List (Node C R)} {g : Free} {k : Key C} → 0 < h → Removed m a b f g (suc (h - 1)) p k → Removed m a b f g h p k
+  removed-down {h} {p} {b} {g} {k} above w = let down : suc (h - 1) ≡ h = omega arith in subst (λ x. Removed m a b f g x p k) down w
 
   -- ---- a node, and its child number i on the way to a key
-  module _ (h p : ℕ) (s : Ready m a f (suc h) p) (n : Node C R) (is : slice_get a p ≡ Some n) (i : ℕ) (lt : i < length (kids_of n.children)) where
+  module _ {h p : ℕ} (s : Ready m a f (suc h) p) {n : Node C R} (is : slice_get a p ≡ Some n) (i : ℕ) (lt : i < length (kids_of n.children)) where
     -- the trees of the height below
     abbrev branch_at : ℕ → Tree C W
     branch_at = tree_at m a h
@@ -172,7 +197,7 @@ module _ {C W R : Type 0} (m : Meaning C W R) (a : List (Node C R)) (f : Free) w
     pub child-room : length (spares a f) < 65535
     child-room = omega (arith, room)
 
-    module _ (k : Key C) (picked : i ≡ pick_at m a k ps) (b : List (Node C R)) (len : length b ≡ length a) (g : Free) (given : spares b g ≡ c ∷ spares a f) (stays : (q : ℕ) → (q ≡ c → ⊥) → slice_get b q ≡ slice_get a q) where
+    module _ (k : Key C) (picked : i ≡ pick_at m a k ps) (b : List (Node C R)) (stays : (q : ℕ) → (q ≡ c → ⊥) → slice_get b q ≡ slice_get a q) where
       -- the children without it
       abbrev us : Forest C W
       us = exchange i 1 none ts
@@ -185,8 +210,8 @@ module _ {C W R : Type 0} (m : Meaning C W R) (a : List (Node C R)) (f : Free) w
       off-now : uses_all (grow (tree_at m b h) (take i ps ++ drop (i + 1) ps)) p ≡ 0
       off-now = ap (λ vs. uses_all vs p) now-below ∙ omega (arith, uses-⊕ before after p, counted p, off)
 
-      pub removed-leaf : h ≡ 0 → (d : List (Node C R)) → length d ≡ length b → Renewed m b d p n (take i ps ++ drop (i + 1) ps) → Removed m a d f g (suc h) p k
-      removed-leaf low d len' w =
+      pub removed-leaf : h ≡ 0 → {g : Free} → spares b g ≡ c ∷ spares a f → {d : List (Node C R)} → length d ≡ length b → Renewed m b d p n (take i ps ++ drop (i + 1) ps) → Removed m a d f g (suc h) p k
+      removed-leaf low {g} given {d} len' w =
           let same = spares-kept b d g len' (λ q u. w.frame q (omega (arith, ap (occurs q) given, apart q, counted q, child-uses q, inside_one (length a) q))) in
           let j = pick-tree m a h k ps ∙ sym picked in
           let o = kept_in m n in
@@ -201,99 +226,81 @@ module _ {C W R : Type 0} (m : Meaning C W R) (a : List (Node C R)) (f : Free) w
             frame = λ q z. let z' = ap (λ t. uses t q) (sym was) ∙ z in w.frame q (omega arith) ∙ stays q (not-child q (omega (arith, counted q)));
           }
 
-  -- ---- the child is itself above others, and loses a leaf
-  module _ (h p : ℕ) (s : Ready m a f (suc (suc h)) p) (n : Node C R) (is : slice_get a p ≡ Some n) (i : ℕ) (lt : i < length (kids_of n.children)) (k : Key C) where
-    -- where the child stands
-    abbrev spot : ℕ
-    spot = get_or (kids_of n.children) i 0
-
-    -- the child before
-    abbrev child : Tree C W
-    child = tree_at m a (suc h) spot
-
-    -- all children, those left of it, and those right of it
-    abbrev all : Forest C W
-    all = under m a (suc h) n
-
-    abbrev lefts : Forest C W
-    lefts = front i all
-
-    abbrev rights : Forest C W
-    rights = back (i + 1) all
-
-    pub child-ready : Ready m a f (suc h) spot
-    child-ready = record {
-      above = omega arith;
-      level = (level-split (suc h) p s n is i lt).1.0;
-      degrees = (degrees-split (suc h) p s n is i lt).1.0;
-      keyed = keyed-child (suc h) p s n is i lt;
-      apart = λ q. omega (arith, apart (suc h) p s n is i lt q, counted (suc h) p s n is i lt q);
-      room = omega (arith, room (suc h) p s n is i lt, sized (suc h) p s n is i lt);
-    }
-
-    child-degrees : (2 ≤ count (children_of child)) × (count (children_of child) ≤ 4) × DegreesAll (children_of child) 2 4
-    child-degrees = fork-degrees m 2 4 (omega arith) (omega arith) h child child-ready.level child-ready.degrees
-
-    -- the child after, and the places that are free then
-    abbrev shorter : Tree C W
-    shorter = (removed m 2 4 (suc h) k (spares a f) child).0
-
-    abbrev freed : List ℕ
-    freed = (removed m 2 4 (suc h) k (spares a f) child).1
-
-    shrunk : Shrunk 2 4 (suc h) (spares a f) child shorter freed
-    shrunk = removed-shrunk m 2 4 (omega arith) (omega arith) (omega arith) h k (spares a f) child child-ready.level child-ready.keyed child-degrees.0 child-degrees.2
-
-    module _ (b : List (Node C R)) (len : length b ≡ length a) (g : Free) (rem : Removed m a b f g (suc h) spot k) where
-      -- all children after
-      abbrev new : Forest C W
-      new = exchange i 1 (more shorter none) all
-
-      now-all : under m b (suc h) n ≡ new
-      now-all =
-          let at : spot ≡ place_of shorter = sym (place_at m a (suc h) spot) ∙ sym shrunk.root in
-          ap (grow (tree_at m b (suc h))) (sym (put_back (kids_of n.children) i lt) ∙ ap (λ x. take i (kids_of n.children) ++ (x ∷ drop (i + 1) (kids_of n.children))) at)
-          ∙ exchange-grow m a b (suc h) (kids_of n.children) i 1 (more shorter none) (ap (λ x. more (tree_at m b (suc h) x) none) (sym at) ∙ ap (λ t. more t none) rem.tree)
-          (λ q u. let z = ap (λ vs. uses_all vs q) (front-grow (tree_at m a (suc h)) i (kids_of n.children)) in rem.frame q (omega (arith, apart (suc h) p s n is i lt q, counted (suc h) p s n is i lt q, inside_one (length a) q)))
-          (λ q u. let z = ap (λ vs. uses_all vs q) (back-grow (tree_at m a (suc h)) (i + 1) (kids_of n.children)) in rem.frame q (omega (arith, apart (suc h) p s n is i lt q, counted (suc h) p s n is i lt q, inside_one (length a) q)))
-
-      moved : (q : ℕ) → uses_all (under m b (suc h) n) q + occurs q freed ≡ uses_all all q + occurs q (spares a f)
-      moved q = omega (arith, ap (λ vs. uses_all vs q) now-all, uses-⊕ lefts (more shorter rights) q, counted (suc h) p s n is i lt q, shrunk.places q)
-
-      still-out : (q : ℕ) → uses_all all q ≡ 0 → uses_all (under m b (suc h) n) q ≡ 0
-      still-out q z = omega (arith, moved q, removed-frees m q (suc h) k (spares a f) child)
-
-      pub mendable : Mendable m b g p n (suc h) i
-      mendable = record {
-        is = rem.frame p (omega (arith, counted (suc h) p s n is i lt p, off (suc h) p s n is i lt)) ∙ is;
-        above = omega arith;
-        index = lt;
-        two = two (suc h) p s n is i lt;
-        sounds = subst (Sounds (length b) (suc h)) (sym now-all) (record {
-          level = level-⊕ lefts (more shorter rights) (suc h) (level-split (suc h) p s n is i lt).0 (shrunk.level, (level-split (suc h) p s n is i lt).1.1);
-          degrees = degrees-⊕ lefts (more shorter rights) 1 4 (looser-all lefts (degrees-split (suc h) p s n is i lt).0) (loose-root shorter (omega (arith, shrunk.least, child-degrees.0)) (omega (arith, shrunk.most, child-degrees.1)) shrunk.degrees, looser-all rights (degrees-split (suc h) p s n is i lt).1.1);
-          apart = λ q. subst (λ x. uses_all new q ≤ inside x q) (sym len) (omega (arith, moved q, ap (λ vs. uses_all vs q) now-all, apart (suc h) p s n is i lt q));
-        });
-        apart = λ q. subst (λ x. hit p q + uses_all (under m b (suc h) n) q + occurs q (spares b g) ≤ inside x q) (sym len) (omega (arith, moved q, ap (occurs q) rem.spares, apart (suc h) p s n is i lt q));
-        room = omega (arith, ap length rem.spares, shrunk.free, size-some shorter, sized (suc h) p s n is i lt, room (suc h) p s n is i lt);
+    -- ---- the child is itself above others, and loses a leaf
+    module _ (deep : 0 < h) (k : Key C) where
+      pub child-ready : Ready m a f h c
+      child-ready = record {
+        above = deep;
+        level = level-split.1.0;
+        degrees = degrees-split.1.0;
+        keyed = keyed-child;
+        apart = λ q. omega (arith, apart q, counted q);
+        room = omega (arith, room, sized);
       }
 
-      pub removed-fork : i ≡ pick_at m a k (kids_of n.children) → (d : List (Node C R)) (g' : Free) → Mended m b d g g' p n (suc h) i → Removed m a d f g' (suc (suc h)) p k
-      removed-fork picked d g' w =
-          let x = key_in n.own in
-          let o = kept_in m n in
-          let j = pick-tree m a (suc h) k (kids_of n.children) ∙ sym picked in
-          let t = at-child (suc h) p s n is i lt in
-          let e : removed m 2 4 (suc (suc h)) k (spares a f) (tree_at m a (suc (suc h)) p) ≡ mended m 2 4 (suc h) p x o i new freed =
-          ap (removed m 2 4 (suc (suc h)) k (spares a f)) (was (suc h) p s n is i lt)
-          ∙ (λ v. mended m 2 4 (suc h) p x o (j v) (exchange (j v) 1 (more (removed m 2 4 (suc h) k (spares a f) (nth_tree (j v) all)).0 none) all) (removed m 2 4 (suc h) k (spares a f) (nth_tree (j v) all)).1)
-          ∙ (λ v. mended m 2 4 (suc h) p x o i (exchange i 1 (more (removed m 2 4 (suc h) k (spares a f) (t v)).0 none) all) (removed m 2 4 (suc h) k (spares a f) (t v)).1) in
-          let made : mended m 2 4 (suc h) p x o i (under m b (suc h) n) (spares b g) ≡ removed m 2 4 (suc (suc h)) k (spares a f) (tree_at m a (suc (suc h)) p) =
-          (λ v. mended m 2 4 (suc h) p x o i (now-all v) (rem.spares v)) ∙ sym e in
-          record {
-            tree = w.tree ∙ ap (λ v. v.0) made;
-            spares = w.spares ∙ ap (λ v. v.1) made;
-            frame = λ q z.
-                let z' = ap (λ v. uses v q) (sym (was (suc h) p s n is i lt)) ∙ z in
-                w.frame q (omega arith) (still-out q (omega arith)) ∙ rem.frame q (omega (arith, counted (suc h) p s n is i lt q));
-          }
+      child-degrees : (2 ≤ count (children_of (branch_at c))) × (count (children_of (branch_at c)) ≤ 4) × DegreesAll (children_of (branch_at c)) 2 4
+      child-degrees = root-degrees m h deep (branch_at c) child-ready.level child-ready.degrees
+
+      -- the child after, and the places that are free then
+      abbrev shorter : Tree C W
+      shorter = (removed m 2 4 h k (spares a f) (branch_at c)).0
+
+      abbrev freed : List ℕ
+      freed = (removed m 2 4 h k (spares a f) (branch_at c)).1
+
+      -- all children after
+      abbrev new : Forest C W
+      new = exchange i 1 (more shorter none) ts
+
+      shrunk : Shrunk 2 4 h (spares a f) (branch_at c) shorter freed
+      shrunk = cut-shrunk m h deep k (spares a f) (branch_at c) child-ready.level child-ready.degrees child-ready.keyed
+
+      module _ {b : List (Node C R)} (len : length b ≡ length a) {g : Free} (rem : Removed m a b f g h c k) where
+        now-all : under m b h n ≡ new
+        now-all =
+            let at : c ≡ place_of shorter = sym (place_at m a h c) ∙ sym shrunk.root in
+            ap (grow (tree_at m b h)) (sym (put_back ps i lt) ∙ ap (λ x. take i ps ++ (x ∷ drop (i + 1) ps)) at)
+            ∙ exchange-grow m a b h ps i 1 (more shorter none) (ap (λ x. more (tree_at m b h x) none) (sym at) ∙ ap (λ t. more t none) rem.tree)
+            (λ q u. let z = ap (λ vs. uses_all vs q) (front-grow branch_at i ps) in rem.frame q (omega (arith, apart q, counted q, inside_one (length a) q)))
+            (λ q u. let z = ap (λ vs. uses_all vs q) (back-grow branch_at (i + 1) ps) in rem.frame q (omega (arith, apart q, counted q, inside_one (length a) q)))
+
+        moved : (q : ℕ) → uses_all (under m b h n) q + occurs q freed ≡ uses_all ts q + occurs q (spares a f)
+        moved q = omega (arith, ap (λ vs. uses_all vs q) now-all, uses-⊕ before (more shorter after) q, counted q, shrunk.places q)
+
+        still-out : (q : ℕ) → uses_all ts q ≡ 0 → uses_all (under m b h n) q ≡ 0
+        still-out q z = omega (arith, moved q, removed-frees m q h k (spares a f) (branch_at c))
+
+        pub mendable : Mendable m b g p n h i
+        mendable = record {
+          is = rem.frame p (omega (arith, counted p, off)) ∙ is;
+          above = deep;
+          index = lt;
+          two = two;
+          sounds = subst (Sounds (length b) h) (sym now-all) (record {
+            level = level-⊕ before (more shorter after) h level-split.0 (shrunk.level, level-split.1.1);
+            degrees = degrees-⊕ before (more shorter after) 1 4 (looser-all before degrees-split.0) (loose-root shorter (omega (arith, shrunk.least, child-degrees.0)) (omega (arith, shrunk.most, child-degrees.1)) shrunk.degrees, looser-all after degrees-split.1.1);
+            apart = λ q. subst (λ x. uses_all new q ≤ inside x q) (sym len) (omega (arith, moved q, ap (λ vs. uses_all vs q) now-all, apart q));
+          });
+          apart = λ q. subst (λ x. hit p q + uses_all (under m b h n) q + occurs q (spares b g) ≤ inside x q) (sym len) (omega (arith, moved q, ap (occurs q) rem.spares, apart q));
+          room = omega (arith, ap length rem.spares, shrunk.free, size-some shorter, sized, room);
+        }
+
+        pub removed-fork : i ≡ pick_at m a k ps → {d : List (Node C R)} {g' : Free} → Mended m b d g g' p n h i → Removed m a d f g' (suc h) p k
+        removed-fork picked {d} {g'} w =
+            let x = key_in n.own in
+            let o = kept_in m n in
+            let j = pick-tree m a h k ps ∙ sym picked in
+            let e : removed m 2 4 (suc h) k (spares a f) (tree_at m a (suc h) p) ≡ mended m 2 4 h p x o i new freed =
+            ap (removed m 2 4 (suc h) k (spares a f)) was
+            ∙ removed-deep m h deep p x o ts k (spares a f)
+            ∙ (λ v. mended m 2 4 h p x o (j v) (exchange (j v) 1 (more (removed m 2 4 h k (spares a f) (nth_tree (j v) ts)).0 none) ts) (removed m 2 4 h k (spares a f) (nth_tree (j v) ts)).1)
+            ∙ (λ v. mended m 2 4 h p x o i (exchange i 1 (more (removed m 2 4 h k (spares a f) (at-child v)).0 none) ts) (removed m 2 4 h k (spares a f) (at-child v)).1) in
+            let made : mended m 2 4 h p x o i (under m b h n) (spares b g) ≡ removed m 2 4 (suc h) k (spares a f) (tree_at m a (suc h) p) =
+            (λ v. mended m 2 4 h p x o i (now-all v) (rem.spares v)) ∙ sym e in
+            record {
+              tree = w.tree ∙ ap (λ v. v.0) made;
+              spares = w.spares ∙ ap (λ v. v.1) made;
+              frame = λ q z.
+                  let z' = ap (λ v. uses v q) (sym was) ∙ z in
+                  w.frame q (omega arith) (still-out q (omega arith)) ∙ rem.frame q (omega (arith, counted q));
+            }

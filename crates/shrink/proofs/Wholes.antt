@@ -14,7 +14,7 @@ use Rattle.shapes.specs.Shape.{occurs, Holds, Changed, Shrunk}
 use Rattle.shapes.specs.Settles.{Whole}
 use Rattle.shapes.proofs.Counts.{points-least}
 use Rattle.shapes.proofs.Drops.{without-key-whole}
-use Rattle.shapes.proofs.Shrinks.{fork-degrees, removed-shrunk, without-key-changed}
+use Rattle.shapes.proofs.Shrinks.{without-key-changed}
 use Rattle.table.specs.declared.node.Node.{Node}
 use Rattle.table.specs.declared.free.Free.{Free}
 use Rattle.table.specs.declared.header.Header.{Header}
@@ -28,14 +28,14 @@ use Rattle.tree.proofs.Spared.{none-occurring, spares-kept}
 use Rattle.shrink.specs.Removes.{Ready, Removed}
 use Rattle.shrink.specs.Lowers.{Lowerable, Lowered}
 use Rattle.shrink.proofs.Basics.{uses-children}
-use Rattle.shrink.proofs.Removes.{looser, loose-root, size-some}
+use Rattle.shrink.proofs.Removes.{looser, loose-root, size-some, root-degrees, cut-shrunk}
 
 -- a tree has points
 some-points : {C W : Type 0} (h : ℕ) (f : Forest C W) → Holds h f → 1 ≤ count f → 0 < length (points_all f)
 some-points h none w n = absurd (omega arith)
 some-points h (more t ts) w n = omega (arith, length-append (points t) (points_all ts), points-least 4 t h w.fine.level.0 w.fine.degrees.0, pow_pos h)
 
-module _ {C W R : Type 0} (m : Meaning C W R) (a : List (Node C R)) (hd : Header) (st : Standing m a hd) (some : 0 < hd.count) (k : Key C) where
+module _ {C W R : Type 0} {m : Meaning C W R} {a : List (Node C R)} {hd : Header} (st : Standing m a hd) (some : 0 < hd.count) (k : Key C) where
   -- the parts of the header, the tree and the free places
   abbrev tall : ℕ
   tall = hd.top.height
@@ -82,7 +82,7 @@ module _ {C W R : Type 0} (m : Meaning C W R) (a : List (Node C R)) (hd : Header
     pub height : top.height ≡ result.1
     pub spares : spares b g ≡ result.2
 
-  module _ (b : List (Node C R)) (top : Subtree) (g : Free) (e : Left b top g) where
+  module _ {b : List (Node C R)} {top : Subtree} {g : Free} (e : Left b top g) where
     -- the header after
     abbrev new : Header
     new = record { top = top; count = hd.count - 1; free = g }
@@ -102,7 +102,7 @@ module _ {C W R : Type 0} (m : Meaning C W R) (a : List (Node C R)) (hd : Header
         (subst (Whole m top.height) (sym e.forest) (subst (λ x. Whole m x result.0) (sym e.height) w.0), ap points_all e.forest ∙ w.1)
 
   -- ---- the point is not kept any more, in the table b
-  module _ (b : List (Node C R)) (len : length b ≡ length a) (bec : Became m a b tall p (take_out m tall k t)) where
+  module _ {b : List (Node C R)} (len : length b ≡ length a) (bec : Became m a b tall p (take_out m tall k t)) where
     -- the tree that keeps the point no more
     abbrev taken : Tree C W
     taken = take_out m tall k t
@@ -130,8 +130,8 @@ module _ {C W R : Type 0} (m : Meaning C W R) (a : List (Node C R)) (hd : Header
           ∙ subst (λ x. without_key m 2 4 x k qs (more t none) ≡ (none, 0, place_of t ∷ qs)) (sym z) refl
           ∙ ap (λ (x : ℕ). (none, 0, x ∷ qs)) (place_at m a tall p)
 
-      pub leaf-left : (c : List (Node C R)) → length c ≡ length b → (g : Free) → spares c g ≡ p ∷ spares b f → Left c hd.top g
-      leaf-left c len-c g given =
+      pub leaf-left : {c : List (Node C R)} → length c ≡ length b → {g : Free} → spares c g ≡ p ∷ spares b f → Left c hd.top g
+      leaf-left {c} len-c {g} given =
           let e : hd.count - 1 ≡ 0 = omega (arith, st.counted, changed.1, ap (λ v. length (points_all v.0)) none_left) in
           record {
             same = len-c ∙ len;
@@ -169,13 +169,9 @@ module _ {C W R : Type 0} (m : Meaning C W R) (a : List (Node C R)) (hd : Header
       cut = removed m 2 4 tall k qs taken
 
       shrunk : Shrunk 2 4 tall qs taken cut.0 cut.1
-      shrunk =
-          let l = subst (Level taken) up level in
-          let d = fork-degrees m 2 4 (omega arith) (omega arith) (tall - 1) taken l degrees in
-          subst (λ x. Shrunk 2 4 x qs taken (removed m 2 4 x k qs taken).0 (removed m 2 4 x k qs taken).1) (sym up)
-          (removed-shrunk m 2 4 (omega arith) (omega arith) (omega arith) (tall - 1) k qs taken l keyed d.0 d.2)
+      shrunk = cut-shrunk m tall (omega arith) k qs taken level degrees keyed
 
-      module _ (c : List (Node C R)) (len-c : length c ≡ length b) (g : Free) (rem : Removed m b c f g tall p k) where
+      module _ {c : List (Node C R)} (len-c : length c ≡ length b) {g : Free} (rem : Removed m b c f g tall p k) where
         made : removed m 2 4 tall k (spares b f) (tree_at m b tall p) ≡ cut
         made = λ i. removed m 2 4 tall k (free-same i) (bec.tree i)
 
@@ -187,7 +183,7 @@ module _ {C W R : Type 0} (m : Meaning C W R) (a : List (Node C R)) (hd : Header
 
         pub lowerable : Lowerable m c g tall p
         lowerable =
-            let d = fork-degrees m 2 4 (omega arith) (omega arith) (tall - 1) taken (subst (Level taken) up level) degrees in
+            let d = root-degrees m tall (omega arith) taken level degrees in
             let s = shrunk in
             let n : length c ≡ length a = len-c ∙ len in
             record {
@@ -201,7 +197,7 @@ module _ {C W R : Type 0} (m : Meaning C W R) (a : List (Node C R)) (hd : Header
               room = omega (arith, ap length spares-now, s.free, alike_size taken t like, size-some cut.0, free, st.small);
             }
 
-        module _ (d : List (Node C R)) (len-d : length d ≡ length c) (g' : Free) (top : Subtree) (low : Lowered m c d g g' tall p top.height top.root) where
+        module _ {d : List (Node C R)} (len-d : length d ≡ length c) {g' : Free} {top : Subtree} (low : Lowered m c d g g' tall p top.height top.root) where
           lowered_is : lowered m tall (tree_at m c tall p) (spares c g) ≡ result
           lowered_is =
               (λ v. lowered m tall (tree-now v) (spares-now v))
