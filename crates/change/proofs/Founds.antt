@@ -48,11 +48,11 @@ module _ {C W R : Type 0} (m : Meaning C W R) (first : First m) (second : Second
     pub find_none : hd.count ≡ 0 → r ≡ None → r ≡ weight_at m k (points_of m ns hd)
     find_none z e = e ∙ ap (λ f. weight_at m k (points_all f)) (sym (forest-none m ns hd z))
 
-    pub find-some : (hd.count ≡ 0 → ⊥) → r ≡ found m hd.height k (tree_at m ns hd.height hd.root) → Ruled m ns hd → r ≡ weight_at m k (points_of m ns hd)
+    pub find-some : (hd.count ≡ 0 → ⊥) → r ≡ found m hd.top.height k (tree_at m ns hd.top.height hd.top.root) → Ruled m ns hd → r ≡ weight_at m k (points_of m ns hd)
     find-some pos e ruled =
-        let t = tree_at m ns hd.height hd.root in
-        let one = subst (Whole m hd.height) (forest-some m ns hd pos) ruled in
-        e ∙ found-weight hd.height k t (whole-sorted m hd.height t one)
+        let t = tree_at m ns hd.top.height hd.top.root in
+        let one = subst (Whole m hd.top.height) (forest-some m ns hd pos) ruled in
+        e ∙ found-weight hd.top.height k t (whole-sorted m hd.top.height t one)
         ∙ ap (weight_at m k) (sym (append-nil (points t)))
         ∙ ap (λ f. weight_at m k (points_all f)) (sym (forest-some m ns hd pos))
 

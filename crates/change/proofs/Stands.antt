@@ -24,17 +24,17 @@ module _ {C W : Type 0} where
 
 module _ {C W R : Type 0} (m : Meaning C W R) (ns : List (Node C R)) (hd : Header) where
   -- with points there is the tree at the root, and else none
-  pub forest-some : (hd.count ≡ 0 → ⊥) → forest_of m ns hd ≡ more (tree_at m ns hd.height hd.root) none
-  forest-some pos = cond-false (eqb hd.count 0) none (more (tree_at m ns hd.height hd.root) none) (ne_eqb hd.count 0 pos)
+  pub forest-some : (hd.count ≡ 0 → ⊥) → forest_of m ns hd ≡ more (tree_at m ns hd.top.height hd.top.root) none
+  forest-some pos = cond-false (eqb hd.count 0) none (more (tree_at m ns hd.top.height hd.top.root) none) (ne_eqb hd.count 0 pos)
 
   pub forest-none : hd.count ≡ 0 → forest_of m ns hd ≡ none
-  forest-none z = cond-true (eqb hd.count 0) none (more (tree_at m ns hd.height hd.root) none) (eq-eqb hd.count 0 z)
+  forest-none z = cond-true (eqb hd.count 0) none (more (tree_at m ns hd.top.height hd.top.root) none) (eq-eqb hd.count 0 z)
 
   -- the tree at the root is sound
-  pub standing-sound : Standing m ns hd → (hd.count ≡ 0 → ⊥) → Sound (length ns) hd.height (tree_at m ns hd.height hd.root)
+  pub standing-sound : Standing m ns hd → (hd.count ≡ 0 → ⊥) → Sound (length ns) hd.top.height (tree_at m ns hd.top.height hd.top.root)
   standing-sound s pos =
-      let t = tree_at m ns hd.height hd.root in
-      let holds = subst (Holds hd.height) (forest-some pos) s.holds in
+      let t = tree_at m ns hd.top.height hd.top.root in
+      let holds = subst (Holds hd.top.height) (forest-some pos) s.holds in
       record {
         level = holds.fine.level.0;
         degrees = degrees-less t holds.fine.degrees.0;

@@ -1,7 +1,7 @@
 -- A weight changed in the tree of a table: the three steps one after the other, and what stands then.
-use Rattle.std.proofs.Common.{◌≡◌, ℕ, ◌<◌, true, T, List, [], ◌∷◌, length, sym, ap, ◌∙◌, subst, arith}
+use Rattle.std.proofs.Common.{◌≡◌, ℕ, ◌<◌, true, T, List, length, sym, ap, ◌∙◌, subst, arith}
 use lib.ListN.{length-map}
-use Rattle.std.specs.List.{slice_get, AllByRecursion}
+use Rattle.std.specs.List.{slice_get}
 use Rattle.kinds.specs.Meaning.{Meaning, First, Second}
 use Rattle.plain.specs.declared.point.Key.{Key}
 use Rattle.plain.specs.declared.point.Point.{Point}
@@ -18,17 +18,11 @@ use Rattle.table.specs.declared.node.Stored.{Stored}
 use Rattle.table.specs.declared.header.Header.{Header}
 use Rattle.table.specs.Spares.{spares}
 use Rattle.table.specs.Reading.{point_in, tree_at, inside, Sound, Became}
-use Rattle.table.proofs.Frames.{hit-here}
-use Rattle.table.proofs.Places.{spares-same}
 use Rattle.table.proofs.Steps.{inside_one}
 use Rattle.tree.specs.Standing.{forest_of, points_of, Standing, Ruled}
+use Rattle.tree.proofs.Spared.{spares-kept}
 use Rattle.change.specs.Weighed.{reweighed}
 use Rattle.change.proofs.Stands.{forest-some}
-
--- what holds of each place that stands in a list
-all-occurs : (P : ℕ → Type 0) (qs : List ℕ) → ((q : ℕ) → 0 < occurs q qs → P q) → AllByRecursion P qs
-all-occurs P [] h = tt
-all-occurs P (p ∷ qs) h = (h p (omega (arith, hit-here p)), all-occurs P qs (λ q o. h q (omega arith)))
 
 module _ {C W R : Type 0} (m : Meaning C W R) where
   -- ---- one step and then another, where the first leaves the nodes where they are
@@ -57,32 +51,31 @@ module _ {C W R : Type 0} (m : Meaning C W R) where
 
   -- ---- the tree that stands
   module _ (a b : List (Node C R)) (hd : Header) (k : Key C) (w : W) (len : length b ≡ length a) (s : Standing m a hd) (pos : hd.count ≡ 0 → ⊥)
-      (bec : Became m a b hd.height hd.root (reweighed m hd.height k w (tree_at m a hd.height hd.root))) where
-    pub changed-forest : forest_of m b hd ≡ with_weight m hd.height k w (forest_of m a hd)
+      (bec : Became m a b hd.top.height hd.top.root (reweighed m hd.top.height k w (tree_at m a hd.top.height hd.top.root))) where
+    pub changed-forest : forest_of m b hd ≡ with_weight m hd.top.height k w (forest_of m a hd)
     changed-forest =
         forest-some m b hd pos
         ∙ ap (λ t. more t none) bec.tree
-        ∙ ap (with_weight m hd.height k w) (sym (forest-some m a hd pos))
+        ∙ ap (with_weight m hd.top.height k w) (sym (forest-some m a hd pos))
 
     -- no free place has changed
     changed-spares : spares b hd.free ≡ spares a hd.free
     changed-spares =
-        spares-same a b hd.free len
-        (all-occurs (λ q. slice_get b q ≡ slice_get a q) (spares a hd.free)
-        (λ q o. bec.frame q (omega (arith, s.places q, inside_one (length a) q, ap (λ f. uses_all f q) (forest-some m a hd pos)))))
+        spares-kept a b hd.free len
+        (λ q o. bec.frame q (omega (arith, s.places q, inside_one (length a) q, ap (λ f. uses_all f q) (forest-some m a hd pos))))
 
     pub changed-standing : Standing m b hd
     changed-standing =
         let f = forest_of m a hd in
-        let g = with_weight m hd.height k w f in
+        let g = with_weight m hd.top.height k w f in
         let qs = spares a hd.free in
-        let ch = with-weight-changed m hd.height k w qs f s.holds in
-        let keys = ap length (alike-keys_all g f (with-weight-bare m hd.height k w f s.holds.one)) in
+        let ch = with-weight-changed m hd.top.height k w qs f s.holds in
+        let keys = ap length (alike-keys_all g f (with-weight-bare m hd.top.height k w f s.holds.one)) in
         let spare = ap length changed-spares in
         let size = ap size_all changed-forest in
         record {
           small = omega (arith, s.small);
-          holds = subst (Holds hd.height) (sym changed-forest) ch.holds;
+          holds = subst (Holds hd.top.height) (sym changed-forest) ch.holds;
           places = λ q. omega (arith, s.places q, ch.places q, ap (λ v. uses_all v q) changed-forest, ap (occurs q) changed-spares, ap (λ n. inside n q) len);
           free = omega (arith, s.free, ch.free);
           counted = omega (arith, s.counted, ap (λ v. length (points_all v)) changed-forest, length-map (points_all g) (λ (x : Point C W). x.key), length-map (points_all f) (λ (x : Point C W). x.key));
@@ -90,5 +83,5 @@ module _ {C W R : Type 0} (m : Meaning C W R) where
 
     pub changed-ruled : First m → Second m → Ruled m a hd → stands m k (points_of m a hd) ≡ true → T (m.fit k.at w) → Ruled m b hd × (points_of m b hd ≡ reweigh m k w (points_of m a hd))
     changed-ruled first second ruled on fit =
-        let r = with-weight-whole m first second hd.height k w (forest_of m a hd) ruled on fit in
-        (subst (Whole m hd.height) (sym changed-forest) r.0, ap points_all changed-forest ∙ r.1)
+        let r = with-weight-whole m first second hd.top.height k w (forest_of m a hd) ruled on fit in
+        (subst (Whole m hd.top.height) (sym changed-forest) r.0, ap points_all changed-forest ∙ r.1)

@@ -2,7 +2,7 @@
 ghost use Rattle.std.specs.Prelude.{◌≡◌, ◌<◌, true, T, length};
 ghost use Rattle.plain.specs.Set.{reweigh, stands};
 ghost use Rattle.trees.specs.Moves.{with_weight};
-ghost use Rattle.table.specs.Reading.{tree_at, Sound, Became};
+ghost use Rattle.table.specs.Reading.{tree_of, Sound, Became};
 ghost use Rattle.tree.specs.Standing.{forest_of, points_of, Standing, Ruled};
 ghost use Rattle.change.specs.Weighed.{reweighed};
 
@@ -10,6 +10,7 @@ use kinds::Kind;
 use plain::Key;
 use table::header::Header;
 use table::node::{Node, Stored};
+use table::subtree::Subtree;
 use tree::keep::{push, take_out, weigh};
 
 // The point of a key and a weight, as a node stores it.
@@ -23,21 +24,19 @@ fn stored<C: Copy, R: Copy>(key: Key<C>, weight: R) -> Stored<C, R>
     }
 }
 
-// In the tree at a place: the point of a key is taken out, its leaf gets the weight, and it is
-// kept again.
+// In one tree: the point of a key is taken out, its leaf gets the weight, and it is kept again.
 fn reweigh_below<K: Kind>(
     nodes: &mut [Node<K::Coordinate, K::Recorded>],
-    at: u16,
-    height: u8,
+    tree: Subtree,
     key: Key<K::Coordinate>,
     weight: K::Recorded,
 )
-    requires { Sound (length nodes.old) height (tree_at K.Kind.meaning nodes.old height at) }
-    ensures { Became K.Kind.meaning nodes.old nodes.new height at (reweighed K.Kind.meaning height key (K.Kind.meaning.recalled weight) (tree_at K.Kind.meaning nodes.old height at)) }
+    requires { Sound (length nodes.old) tree.height (tree_of K.Kind.meaning nodes.old tree) }
+    ensures { Became K.Kind.meaning nodes.old nodes.new tree.height tree.root (reweighed K.Kind.meaning tree.height key (K.Kind.meaning.recalled weight) (tree_of K.Kind.meaning nodes.old tree)) }
 {
-    take_out::<K>(nodes, at, height, key);
-    weigh::<K>(nodes, at, height, key, weight);
-    push::<K>(nodes, at, height, stored(key, weight));
+    take_out::<K>(nodes, tree, key);
+    weigh::<K>(nodes, tree, key, weight);
+    push::<K>(nodes, tree, stored(key, weight));
 }
 
 // The point of a key gets another weight.
@@ -50,8 +49,8 @@ pub fn change<K: Kind>(
     requires standing { Standing K.Kind.meaning nodes.old header }
     requires some { 0 < header.count }
     ensures standing { Standing K.Kind.meaning nodes.new header }
-    ensures tree { forest_of K.Kind.meaning nodes.new header ≡ with_weight K.Kind.meaning header.height key (K.Kind.meaning.recalled weight) (forest_of K.Kind.meaning nodes.old header) }
+    ensures tree { forest_of K.Kind.meaning nodes.new header ≡ with_weight K.Kind.meaning header.top.height key (K.Kind.meaning.recalled weight) (forest_of K.Kind.meaning nodes.old header) }
     ensures ruled { Ruled K.Kind.meaning nodes.old header → stands K.Kind.meaning key (points_of K.Kind.meaning nodes.old header) ≡ true → T (K.Kind.meaning.fit key.at (K.Kind.meaning.recalled weight)) → Ruled K.Kind.meaning nodes.new header × (points_of K.Kind.meaning nodes.new header ≡ reweigh K.Kind.meaning key (K.Kind.meaning.recalled weight) (points_of K.Kind.meaning nodes.old header)) }
 {
-    reweigh_below::<K>(nodes, header.root, header.height, key, weight);
+    reweigh_below::<K>(nodes, header.top, key, weight);
 }

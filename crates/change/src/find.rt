@@ -4,7 +4,7 @@ ghost use Rattle.std.specs.Ordering.{is_eq};
 ghost use Rattle.plain.specs.Points.{key_order};
 ghost use Rattle.plain.specs.Set.{weight_at};
 ghost use Rattle.trees.specs.Kept.{found};
-ghost use Rattle.table.specs.Reading.{tree_at, Sound};
+ghost use Rattle.table.specs.Reading.{tree_of, Sound};
 ghost use Rattle.table.specs.Keys.{key_in};
 ghost use Rattle.tree.specs.Standing.{points_of, Standing, Ruled};
 
@@ -12,7 +12,8 @@ use kinds::Kind;
 use plain::{Key, key_order};
 use table::header::Header;
 use table::node::{Node, Stored, read};
-use tree::search::{key_of, pick_child};
+use table::subtree::Subtree;
+use tree::search::pick_child;
 
 // The weight of a stored point, if the key is that of the point.
 fn weight_if<K: Kind>(
@@ -21,7 +22,7 @@ fn weight_if<K: Kind>(
 ) -> Option<K::Weight>
     ensures { result ≡ (if is_eq (key_order K.Kind.meaning key (key_in s)) then Some (K.Kind.meaning.recalled s.weight) else None) }
 {
-    if key_order::<K>(key, key_of(s)).is_eq() {
+    if key_order::<K>(key, s.key()).is_eq() {
         return Some(K::recall(s.weight));
     }
     None
@@ -30,20 +31,22 @@ fn weight_if<K: Kind>(
 // The weight at the leaf on the way to a key, if the leaf has that key.
 pub fn find_below<K: Kind>(
     nodes: &[Node<K::Coordinate, K::Recorded>],
-    at: u16,
-    height: u8,
+    tree: Subtree,
     key: Key<K::Coordinate>,
 ) -> Option<K::Weight>
-    requires { Sound (length nodes.now) height (tree_at K.Kind.meaning nodes.now height at) }
-    ensures { result ≡ found K.Kind.meaning height key (tree_at K.Kind.meaning nodes.now height at) }
+    requires { Sound (length nodes.now) tree.height (tree_of K.Kind.meaning nodes.now tree) }
+    ensures { result ≡ found K.Kind.meaning tree.height key (tree_of K.Kind.meaning nodes.now tree) }
 {
-    let n = read(nodes, at);
-    if height == 0 {
+    let n = read(nodes, tree.root);
+    if tree.height == 0 {
         return weight_if::<K>(n.own, key);
     }
     let i = pick_child::<K>(nodes, n.children, key);
-    let child = n.children.at(i);
-    find_below::<K>(nodes, child, height - 1, key)
+    let child = Subtree {
+        root: n.children.at(i),
+        height: tree.height - 1,
+    };
+    find_below::<K>(nodes, child, key)
 }
 
 // The weight of a key, if the key stands.
@@ -59,5 +62,5 @@ pub fn find<K: Kind>(
     if header.count == 0 {
         return None;
     }
-    find_below::<K>(nodes, header.root, header.height, key)
+    find_below::<K>(nodes, header.top, key)
 }

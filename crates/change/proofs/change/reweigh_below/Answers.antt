@@ -6,24 +6,24 @@ use Rattle.change.proofs.change.reweigh_below.Goals as goal
 pub weigh-requires : goal.weigh-requires
 weigh-requires g c =
     let m = g.K.Kind.meaning in
-    let h = c.args.height in
+    let h = c.args.tree.height in
     let k = c.args.key in
-    sound-after m c.args.nodes.now c.take_out.new.nodes h c.args.at (take_out m h k) (take_bare m h k) c.take_out.ensures c.take_out.auto.nodes c.requires
+    sound-after m c.args.nodes.now c.take_out.new.nodes h c.args.tree.root (take_out m h k) (take_bare m h k) c.take_out.ensures c.take_out.auto.nodes c.requires
 
 pub push-requires : goal.push-requires
 push-requires g c =
     let m = g.K.Kind.meaning in
-    let h = c.args.height in
+    let h = c.args.tree.height in
     let k = c.args.key in
     let w = m.recalled c.args.weight in
-    sound-after m c.take_out.new.nodes c.weigh.new.nodes h c.args.at (weigh m h k w) (weigh-bare m h k w) c.weigh.ensures c.weigh.auto.nodes
-    (sound-after m c.args.nodes.now c.take_out.new.nodes h c.args.at (take_out m h k) (take_bare m h k) c.take_out.ensures c.take_out.auto.nodes c.requires)
+    sound-after m c.take_out.new.nodes c.weigh.new.nodes h c.args.tree.root (weigh m h k w) (weigh-bare m h k w) c.weigh.ensures c.weigh.auto.nodes
+    (sound-after m c.args.nodes.now c.take_out.new.nodes h c.args.tree.root (take_out m h k) (take_bare m h k) c.take_out.ensures c.take_out.auto.nodes c.requires)
 
 pub returns : goal.returns
 returns g c =
     let m = g.K.Kind.meaning in
-    let h = c.args.height in
-    let p = c.args.at in
+    let h = c.args.tree.height in
+    let p = c.args.tree.root in
     let k = c.args.key in
     let w = m.recalled c.args.weight in
     let pushed = pushed-as m c.weigh.new.nodes c.push.new.nodes h p k c.args.weight c.stored.result c.stored.ensures c.push.ensures in
