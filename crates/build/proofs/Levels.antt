@@ -72,14 +72,22 @@ module _ {C W R : Type 0} (m : Meaning C W R) where
     abbrev ts : Forest C W
     ts = trees_in m b h left first
 
-    pub raising-sounds : Sounds p h ts
-    raising-sounds = record { level = on.level; degrees = all-degrees-less ts on.degrees; apart = λ q. omega (arith, on.places q) }
-
-    pub raising-room : 2 * p + left ≤ 2 * length b
-    raising-room = omega (arith, on.room)
-
-    pub raising-low : n ≤ 32767 → h < 255
-    raising-low few = low-height h left n (omega arith) on.low few
+    -- what is asked where the parents are laid
+    pub raising-ready : n ≤ 32767 → length b ≤ 32767 →
+        record {
+          small : length b ≤ 32767;
+          low : h < 255;
+          some : 2 ≤ left;
+          room : 2 * p + left ≤ 2 * length b;
+          sounds : Sounds p h ts;
+        }
+    raising-ready few small = record {
+      small = small;
+      low = low-height h left n (omega arith) on.low few;
+      some = two;
+      room = omega (arith, on.room);
+      sounds = record { level = on.level; degrees = all-degrees-less ts on.degrees; apart = λ q. omega (arith, on.places q) };
+    }
 
     module _ (c : List (Node C R)) (len : length c ≡ length b) (made : ℕ) (laid : (k : Key C) → trees_in m c (suc h) made p ≡ parents m left h p k ts) where
       abbrev vs : Forest C W
@@ -119,19 +127,17 @@ module _ {C W R : Type 0} (m : Meaning C W R) where
           let twice : 2 ^ suc h * made ≡ 2 ^ h * (2 * made) = rw (pow-suc, mul_assoc) in
           le_trans (rw twice (mul-le-mul_left (2 ^ h) half)) on.low
 
-      pub raising-turns : Raising m c n xs goal p made (h + 1)
-      raising-turns =
-          let one : suc h ≡ h + 1 = omega arith in
-          subst (λ j. Raising m c n xs goal p made j) one (record {
-            trees = next;
-            level = over.level;
-            degrees = over.degrees;
-            keyed = over.keyed;
-            same = over.same ∙ on.same;
-            places = λ q. omega (arith, over.places q, on.places q, ap (λ j. inside (p + j) q) cvs, same_count q (count vs) p, occurs-inside q (count vs) p);
-            nodes = omega (arith, over.nodes, on.nodes, cvs);
-            room = omega (arith, on.room, half);
-            some = λ s. made_some;
-            most = omega (arith, on.most, half);
-            low = halved;
-          })
+      pub raising-turns : Raising m c n xs goal p made (suc h)
+      raising-turns = record {
+        trees = next;
+        level = over.level;
+        degrees = over.degrees;
+        keyed = over.keyed;
+        same = over.same ∙ on.same;
+        places = λ q. omega (arith, over.places q, on.places q, ap (λ j. inside (p + j) q) cvs, same_count q (count vs) p, occurs-inside q (count vs) p);
+        nodes = omega (arith, over.nodes, on.nodes, cvs);
+        room = omega (arith, on.room, half);
+        some = λ s. made_some;
+        most = omega (arith, on.most, half);
+        low = halved;
+      }

@@ -45,19 +45,19 @@ module _ {C W R : Type 0} (m : Meaning C W R) (a b : List (Node C R)) (n first l
       go (inl z) = omega (arith, on.nodes, ap (λ j. size_all (trees_in m b h j first)) z)
       go (inr z) = omega (arith, on.room)
 
-  pub root-points : points_of m b hd ≡ laid_at m a n
+  root-points : points_of m b hd ≡ laid_at m a n
   root-points = ap points_all root-forest ∙ on.same
 
-  pub root-counted : hd.count ≡ n
+  root-counted : hd.count ≡ n
   root-counted = ap (λ k. k.count) is
 
-  pub root-standing : length b ≤ most_nodes → Standing m b hd
+  root-standing : length b ≤ most_nodes → Standing m b hd
   root-standing small =
       let fresh = first + left in
       let all : fresh + (length b - fresh) ≡ length b = omega (arith, within) in
       record {
         small = small;
-        holds = subst (λ k. Holds k.height (forest_of m b hd)) (sym is) (subst (Holds h) (sym root-forest) (record { one = omega (arith, count-trees m b h left first); fine = record { level = on.level; degrees = on.degrees; keyed = on.keyed } }));
+        holds = subst (λ k. Holds k.top.height (forest_of m b hd)) (sym is) (subst (Holds h) (sym root-forest) (record { one = omega (arith, count-trees m b h left first); fine = record { level = on.level; degrees = on.degrees; keyed = on.keyed } }));
         places = λ q. omega (arith, ap (λ k. occurs q (spares b k.free)) is, ap (λ f. uses_all f q) root-forest, on.places q, occurs-inside q (length b - fresh) fresh, ap (λ j. inside j q) all);
         free = omega (arith, ap (λ k. length (spares b k.free)) is, ap size_all root-forest, on.nodes, length-row (length b - fresh) fresh, within);
         counted = root-counted ∙ sym (ap length root-points ∙ laid-length m a n (laid_at m a n) are);
@@ -67,8 +67,8 @@ module _ {C W R : Type 0} (m : Meaning C W R) (a b : List (Node C R)) (n first l
   ended : (k : Key C) → (ts, h, first + left) ≡ tree_over m a n k
   ended k = sym (levels-done m left h (first + left) k ts (omega (arith, count-trees m b h left first))) ∙ on.trees k
 
-  pub root-tree : (k : Key C) → tree_over m a n k ≡ (forest_of m b hd, hd.height, hd.free.fresh)
-  root-tree k = sym (ended k) ∙ ap (λ f. (f, h, first + left)) (sym root-forest) ∙ ap (λ k. (forest_of m b hd, k.height, k.free.fresh)) (sym is)
+  root-tree : (k : Key C) → tree_over m a n k ≡ (forest_of m b hd, hd.top.height, hd.free.fresh)
+  root-tree k = sym (ended k) ∙ ap (λ f. (f, h, first + left)) (sym root-forest) ∙ ap (λ k. (forest_of m b hd, k.top.height, k.free.fresh)) (sym is)
 
   module _ (orders : First m) (ranks : Second m) (good : Good m (laid_at m a n)) where
     xs-length : length (laid_at m a n) ≡ n
@@ -97,5 +97,16 @@ module _ {C W R : Type 0} (m : Meaning C W R) (a b : List (Node C R)) (n first l
               full = w.full;
             }
 
-    pub root-ruled : Ruled m b hd
-    root-ruled = subst (λ k. Whole m k.height (forest_of m b hd)) (sym is) (subst (Whole m h) (sym root-forest) whole)
+    root-ruled : Ruled m b hd
+    root-ruled = subst (λ k. Whole m k.top.height (forest_of m b hd)) (sym is) (subst (Whole m h) (sym root-forest) whole)
+
+  -- all that is promised of it
+  pub rooted : length b ≤ most_nodes →
+      record {
+        standing : Standing m b hd;
+        counted : hd.count ≡ n;
+        tree : (k : Key C) → tree_over m a n k ≡ (forest_of m b hd, hd.top.height, hd.free.fresh);
+        points : points_of m b hd ≡ laid_at m a n;
+        ruled : First m → Second m → Good m (laid_at m a n) → Ruled m b hd;
+      }
+  rooted small = record { standing = root-standing small; counted = root-counted; tree = root-tree; points = root-points; ruled = root-ruled }

@@ -4,11 +4,9 @@ use Rattle.std.proofs.lemmas.Bool.{cond-true, cond-false, lt-ltb, le-ltb, cases_
 use Rattle.trees.specs.Tree.{hit}
 use Rattle.shapes.specs.Shape.{occurs}
 use Rattle.built.specs.Build.{occurs as occurs_in, row as row_of}
-use Rattle.table.specs.Kids.{kids_of}
 use Rattle.table.specs.Spares.{row}
 use Rattle.table.specs.Reading.{inside}
 use Rattle.table.proofs.Frames.{hit-here, hit-apart}
-use Rattle.build.specs.Stages.{in_row}
 
 pub length-row : (n p : ℕ) → length (row n p) ≡ n
 length-row zero p = refl
@@ -79,12 +77,9 @@ pub same_count : (q n p : ℕ) → occurs_in q (row_of n p) ≡ occurs q (row n 
 same_count q n p = same-occurs q (row_of n p) ∙ ap (occurs q) (same_row n p)
 
 -- ---- children in a row
-pub row-kids : (n p : ℕ) → n ≤ 4 → kids_of (in_row p n) ≡ row n p
+pub row-kids : (n p : ℕ) → n ≤ 4 → take n (p ∷ (p + 1) ∷ (p + 2) ∷ (p + 3) ∷ []) ≡ row n p
 row-kids n p h =
     let one : p + 1 ≡ suc p = omega arith in
     let two : p + 2 ≡ suc (suc p) = omega arith in
     let three : p + 3 ≡ suc (suc (suc p)) = omega arith in
-    ap (λ (q : ℕ). take n (p ∷ q ∷ (p + 2) ∷ (p + 3) ∷ [])) one
-    ∙ ap (λ (q : ℕ). take n (p ∷ suc p ∷ q ∷ (p + 3) ∷ [])) two
-    ∙ ap (λ (q : ℕ). take n (p ∷ suc p ∷ suc (suc p) ∷ q ∷ [])) three
-    ∙ take_row n 4 p h
+    rw (one, two, three) (take_row n 4 p h)

@@ -19,8 +19,8 @@ use Rattle.table.specs.Reading.{tree_at, inside, Sounds}
 use Rattle.table.proofs.Frames.{hit-apart, grow-append, front-grow, back-grow, count-grow, same-trees}
 use Rattle.table.proofs.Steps.{inside-lt, inside_one}
 use Rattle.tree.specs.Forests.{Laid}
-use Rattle.build.specs.Stages.{in_row, trees_in, level_over, Laying}
-use Rattle.build.proofs.Rows.{length-row, take_row, drop-row, row_more, row-kids, not-inside, inside-le, inside-more}
+use Rattle.build.specs.Stages.{trees_in, level_over, Laying}
+use Rattle.build.proofs.Rows.{length-row, take_row, drop-row, row_more, not-inside, inside-le, inside-more}
 
 module _ {C W : Type 0} where
   tree-key : (t : Tree C W) (h : ℕ) → Level t h → Key C
@@ -98,13 +98,13 @@ module _ {C W R : Type 0} (m : Meaning C W R) where
     in_parts : (q : ℕ) → uses_all ts q ≡ uses_all fs q + uses_all bs q
     in_parts q = ap (λ us. uses_all us q) (sym parted) ∙ uses-⊕ fs bs q
 
-    pub group-within : at < length b
+    group-within : at < length b
     group-within = omega (arith, on.room, group-size.0, group-size.2)
 
-    pub group-apart : uses_all fs at ≡ 0
+    group-apart : uses_all fs at ≡ 0
     group-apart = omega (arith, on.apart at, in_parts at, not-inside at at (omega arith))
 
-    pub group-sounds : Sounds (length b) h fs
+    group-sounds : Sounds (length b) h fs
     group-sounds = record {
       level = (level-parts fs bs h (subst (λ us. LevelAll us h) (sym parted) on.level)).0;
       degrees = (degrees-parts fs bs 1 4 (subst (λ us. DegreesAll us 1 4) (sym parted) on.degrees)).0;
@@ -115,32 +115,37 @@ module _ {C W R : Type 0} (m : Meaning C W R) where
         below-inside q = inside-le at (length b) q (omega (arith, group-within))
 
     -- a parent of height H, its children at places in a row
-    module _ (H : ℕ) (up : H ≡ suc h) (kids : Children) (is : kids ≡ in_row from g) where
+    module _ (H : ℕ) (up : H ≡ suc h) (kids : Children) (are : kids_of kids ≡ row g from) where
       over : H - 1 ≡ h
       over = omega arith
-
-      are : kids_of kids ≡ row g from
-      are = ap kids_of is ∙ row-kids g from group-size.1
 
       same-group : grow (tree_at m b (H - 1)) (kids_of kids) ≡ fs
       same-group = ap (λ j. grow (tree_at m b j) (kids_of kids)) over ∙ ap (grow (tree_at m b h)) are
 
-      pub children-some : 0 < length (kids_of kids)
-      children-some = omega (arith, ap length are, length-row g from, group-size.0)
-
-      pub children-sounds : Sounds (length b) (H - 1) (grow (tree_at m b (H - 1)) (kids_of kids))
-      children-sounds = subst (λ us. Sounds (length b) (H - 1) us) (sym same-group) (subst (λ j. Sounds (length b) j fs) (sym over) group-sounds)
-
-      pub children-apart : uses_all (grow (tree_at m b (H - 1)) (kids_of kids)) at ≡ 0
-      children-apart = ap (λ us. uses_all us at) same-group ∙ group-apart
+      -- what is asked where the parent is laid
+      pub turn-ready :
+          record {
+            within : at < length b;
+            above : 0 < H;
+            some : 0 < length (kids_of kids);
+            sounds : Sounds (length b) (H - 1) (grow (tree_at m b (H - 1)) (kids_of kids));
+            apart : uses_all (grow (tree_at m b (H - 1)) (kids_of kids)) at ≡ 0;
+          }
+      turn-ready = record {
+        within = group-within;
+        above = omega arith;
+        some = omega (arith, ap length are, length-row g from, group-size.0);
+        sounds = subst (λ us. Sounds (length b) (H - 1) us) (sym same-group) (subst (λ j. Sounds (length b) j fs) (sym over) group-sounds);
+        apart = ap (λ us. uses_all us at) same-group ∙ group-apart;
+      }
 
     -- the parent is laid
-    module _ (c : List (Node C R)) (len : length c ≡ length b) (H : ℕ) (up : H ≡ suc h) (kids : Children) (is : kids ≡ in_row from g) (laid : Laid m b c H at (kids_of kids)) where
+    module _ (c : List (Node C R)) (len : length c ≡ length b) (H : ℕ) (up : H ≡ suc h) (kids : Children) (are : kids_of kids ≡ row g from) (laid : Laid m b c H at (kids_of kids)) where
       tree : (k : Key C) → tree_at m c (suc h) at ≡ settled m (suc h) at k fs
-      tree k = ap (λ j. tree_at m c j at) (sym up) ∙ laid.tree k ∙ ap (settled m H at k) (same-group H up kids is) ∙ ap (λ j. settled m j at k fs) up
+      tree k = ap (λ j. tree_at m c j at) (sym up) ∙ laid.tree k ∙ ap (settled m H at k) (same-group H up kids are) ∙ ap (λ j. settled m j at k fs) up
 
       frame : (q : ℕ) → q < at → uses_all fs q ≡ 0 → slice_get c q ≡ slice_get b q
-      frame q lt u = laid.frame q (hit-apart at q (λ e. omega arith)) (ap (λ us. uses_all us q) (same-group H up kids is) ∙ u)
+      frame q lt u = laid.frame q (hit-apart at q (λ e. omega arith)) (ap (λ us. uses_all us q) (same-group H up kids are) ∙ u)
 
       before : (q : ℕ) → 0 < inside at q → q < at
       before q i = inside-lt at q i

@@ -6,20 +6,15 @@ use Rattle.plain.specs.declared.point.Point.{Point}
 use Rattle.trees.specs.Tree.{Forest, grow, ◌⊕◌, points_all, size_all, uses_all}
 use Rattle.trees.specs.Rules.{LevelAll, DegreesAll, KeyedAll}
 use Rattle.built.specs.Build.{parents, levels}
-use Rattle.table.specs.declared.children.Children.{Children}
 use Rattle.table.specs.declared.header.Header.{Header}
 use Rattle.table.specs.declared.node.Node.{Node}
 use Rattle.table.specs.Spares.{row}
 use Rattle.table.specs.Reading.{tree_at, inside}
 use Rattle.build.specs.Leaves.{leaves_at}
 
--- children at n places in a row, from p on
-abbrev pub in_row : ℕ → ℕ → Children
-in_row p n = record { first = p; second = p + 1; third = p + 2; fourth = p + 3; count = n }
-
 -- the header of a tree of n points whose last level is `left` trees of height h, one or none, from the place `first` on
 abbrev pub headed : ℕ → ℕ → ℕ → ℕ → Header
-headed first left h n = record { root = first; height = h; count = n; free = record { head = 0; chained = 0; fresh = first + left } }
+headed first left h n = record { top = record { root = first; height = h }; count = n; free = record { head = 0; chained = 0; fresh = first + left } }
 
 module _ {C W R : Type 0} (m : Meaning C W R) (ns : List (Node C R)) where
   -- the trees of height h at n places in a row, from p on

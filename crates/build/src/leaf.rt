@@ -1,5 +1,5 @@
 // Leaves laid down one by one.
-ghost use Rattle.std.specs.Prelude.{◌≡◌, ℕ, ◌<◌, true, length, Some, ◌≢◌};
+ghost use Rattle.std.specs.Prelude.{◌≡◌, ℕ, ◌<◌, length, Some, ◌≢◌};
 ghost use Rattle.std.specs.List.{slice_get};
 ghost use Rattle.trees.specs.Tree.{leaf};
 ghost use Rattle.table.specs.Reading.{point_in, tree_at};
@@ -11,15 +11,9 @@ use table::node::{Node, Stored, write};
 // A leaf for a point, which keeps it.
 fn leaf_for<C: Copy, R: Copy>(x: Stored<C, R>) -> Node<C, R>
     ensures own { result.own ≡ x }
-    ensures kept { result.kept ≡ x }
-    ensures keeps { result.keeps ≡ true }
+    ensures kept { result.kept ≡ Some x }
 {
-    Node {
-        own: x,
-        kept: x,
-        children: Children::none(0),
-        keeps: true,
-    }
+    Node::bare(x, Children::none(0)).keeping(Some(x))
 }
 
 // Lays a leaf for a point, which keeps it.

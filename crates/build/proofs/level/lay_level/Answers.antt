@@ -1,42 +1,56 @@
-use Rattle.std.proofs.Common.{◌≡◌, suc, ◌+◌, ◌<◌, arith}
-use Rattle.build.specs.Stages.{level_over}
-use Rattle.build.proofs.Turns.{laying-starts, group-within, children-some, children-sounds, children-apart, laying-turns, laying-ends}
+use Rattle.std.proofs.Common.{◌≡◌, suc, ◌+◌, ◌-◌, ◌<◌, subst, arith}
+use Rattle.build.specs.Stages.{level_over, Laying}
+use Rattle.build.proofs.Turns.{laying-starts, group-size, turn-ready, laying-turns, laying-ends}
 use Rattle.build.proofs.level.lay_level.Goals as goal
 
-pub loop-left-init : goal.loop-left-init
-loop-left-init g c = laying-starts g.K.Kind.meaning c.args.nodes.now c.args.height c.args.first c.args.count c.requires.some c.requires.room c.requires.sounds
+pub loop-from-init : goal.loop-from-init
+loop-from-init g c =
+    let m = g.K.Kind.meaning in
+    let a = c.args.nodes.now in
+    let v = c.args.level in
+    let all : v.count ≡ v.first + v.count - v.first = omega arith in
+    subst (λ j. Laying m a v.height (v.first + v.count) (level_over m a v.height v.count v.first) v.first j 0) all (laying-starts m a v.height v.first v.count c.requires.some c.requires.room c.requires.sounds)
+
+pub in_row-requires-clause-few : goal.in_row-requires-clause-few
+in_row-requires-clause-few g c =
+    let v = c.args.level in
+    let p = v.first + v.count in
+    let some : 0 < p - c.loop-from.from = omega arith in
+    (group-size g.K.Kind.meaning c.loop-from.nodes v.height p (level_over g.K.Kind.meaning c.args.nodes.now v.height v.count v.first) c.loop-from.from (p - c.loop-from.from) c.loop-from.made c.loop-from.invariant some c.group_size-size.result c.group_size-size.ensures).1
 
 pub settle-requires : goal.settle-requires
 settle-requires g c =
     let m = g.K.Kind.meaning in
-    let b = c.loop-left.nodes in
-    let p = c.args.first + c.args.count in
-    let goal = level_over m c.args.nodes.now c.args.height c.args.count c.args.first in
-    let some : 0 < c.loop-left.left = omega arith in
-    let up : c.args.height + 1 ≡ suc c.args.height = omega arith in
-    record {
-      within = group-within m b c.args.height p goal c.loop-left.from c.loop-left.left c.loop-left.made c.loop-left.invariant some c.group_size-size.result c.group_size-size.ensures;
-      above = omega arith;
-      some = children-some m b c.args.height p goal c.loop-left.from c.loop-left.left c.loop-left.made c.loop-left.invariant some c.group_size-size.result c.group_size-size.ensures (c.args.height + 1) up c.in_row.result c.in_row.ensures;
-      sounds = children-sounds m b c.args.height p goal c.loop-left.from c.loop-left.left c.loop-left.made c.loop-left.invariant some c.group_size-size.result c.group_size-size.ensures (c.args.height + 1) up c.in_row.result c.in_row.ensures;
-      apart = children-apart m b c.args.height p goal c.loop-left.from c.loop-left.left c.loop-left.made c.loop-left.invariant some c.group_size-size.result c.group_size-size.ensures (c.args.height + 1) up c.in_row.result c.in_row.ensures;
-    }
+    let v = c.args.level in
+    let p = v.first + v.count in
+    let from = c.loop-from.from in
+    let some : 0 < p - from = omega arith in
+    let up : v.height + 1 ≡ suc v.height = omega arith in
+    turn-ready m c.loop-from.nodes v.height p (level_over m c.args.nodes.now v.height v.count v.first) from (p - from) c.loop-from.made c.loop-from.invariant some c.group_size-size.result c.group_size-size.ensures
+    (v.height + 1) up c.in_row.result c.in_row.ensures
 
-pub loop-left-preserved : goal.loop-left-preserved
-loop-left-preserved g c =
+pub loop-from-preserved : goal.loop-from-preserved
+loop-from-preserved g c =
     let m = g.K.Kind.meaning in
-    let b = c.loop-left.nodes in
-    let p = c.args.first + c.args.count in
-    let goal = level_over m c.args.nodes.now c.args.height c.args.count c.args.first in
-    let some : 0 < c.loop-left.left = omega arith in
-    let up : c.args.height + 1 ≡ suc c.args.height = omega arith in
-    laying-turns m b c.args.height p goal c.loop-left.from c.loop-left.left c.loop-left.made c.loop-left.invariant some c.group_size-size.result c.group_size-size.ensures
-    c.settle.new.nodes c.settle.auto.nodes (c.args.height + 1) up c.in_row.result c.in_row.ensures c.settle.ensures
+    let b = c.loop-from.nodes in
+    let v = c.args.level in
+    let p = v.first + v.count in
+    let from = c.loop-from.from in
+    let made = c.loop-from.made in
+    let goal = level_over m c.args.nodes.now v.height v.count v.first in
+    let some : 0 < p - from = omega arith in
+    let up : v.height + 1 ≡ suc v.height = omega arith in
+    let size = c.group_size-size.result in
+    let less : p - from - size ≡ p - (from + size) = omega arith in
+    subst (λ j. Laying m c.settle.new.nodes v.height p goal (from + size) j (made + 1)) less
+    (laying-turns m b v.height p goal from (p - from) made c.loop-from.invariant some size c.group_size-size.ensures
+    c.settle.new.nodes c.settle.auto.nodes (v.height + 1) up c.in_row.result c.in_row.ensures c.settle.ensures)
 
-pub returns : goal.returns
-returns g c =
+pub returns-clause-trees : goal.returns-clause-trees
+returns-clause-trees g c =
     let m = g.K.Kind.meaning in
-    let p = c.args.first + c.args.count in
-    let goal = level_over m c.args.nodes.now c.args.height c.args.count c.args.first in
-    let none_left : c.loop-left.left ≡ 0 = omega arith in
-    laying-ends m c.loop-left.nodes c.args.height p goal c.loop-left.from c.loop-left.left c.loop-left.made c.loop-left.invariant none_left
+    let v = c.args.level in
+    let p = v.first + v.count in
+    let goal = level_over m c.args.nodes.now v.height v.count v.first in
+    let none_left : p - c.loop-from.from ≡ 0 = omega arith in
+    laying-ends m c.loop-from.nodes v.height p goal c.loop-from.from (p - c.loop-from.from) c.loop-from.made c.loop-from.invariant none_left

@@ -1,11 +1,12 @@
-use Rattle.std.proofs.Common.{◌+◌}
+use Rattle.std.proofs.Common.{◌-◌}
 use Rattle.build.specs.Stages.{level_over, Laying}
 use Rattle.build.proofs.level.lay_level.Given as goal
 
 -- the parents laid so far, and the trees that have none yet
-abbrev pub invariant-loop-left : goal.invariant-loop-left
-invariant-loop-left g l =
-    Laying g.K.Kind.meaning l.nodes l.height (l.first + l.count) (level_over g.K.Kind.meaning l.initial.nodes l.height l.count l.first) l.from l.left l.made
+abbrev pub invariant-loop-from : goal.invariant-loop-from
+invariant-loop-from g l =
+    let v = l.fn.level in
+    Laying g.K.Kind.meaning l.nodes v.height l.next (level_over g.K.Kind.meaning l.initial.nodes v.height v.count v.first) l.from (l.next - l.from) l.made
 
-abbrev pub decreases-loop-left : goal.decreases-loop-left
-decreases-loop-left g l = l.left
+abbrev pub decreases-loop-from : goal.decreases-loop-from
+decreases-loop-from g l = l.next - l.from
