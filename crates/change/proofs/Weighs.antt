@@ -1,7 +1,6 @@
 -- A weight changed in the tree of a table: the three steps one after the other, and what stands then.
-use Rattle.std.proofs.Common.{◌≡◌, ℕ, ◌<◌, true, T, List, length, sym, ap, ◌∙◌, subst, arith}
+use Rattle.std.proofs.Common.{◌≡◌, ℕ, true, T, List, length, sym, ap, ◌∙◌, subst, arith}
 use lib.ListN.{length-map}
-use Rattle.std.specs.List.{slice_get}
 use Rattle.kinds.specs.Meaning.{Meaning, First, Second}
 use Rattle.plain.specs.declared.point.Key.{Key}
 use Rattle.plain.specs.declared.point.Point.{Point}

@@ -34,14 +34,14 @@ module _ {C W R : Type 0} (m : Meaning C W R) (first : First m) (second : Second
   }
 
   -- the same of the tree that a header names, with its points counted
-  pub passes-checked : (ns : List (Node C R)) (hd : Header) → (hd.count ≡ 0 → ⊥) → (u : Option (Key C)) → Passes m (tree_at m ns hd.height hd.root) u hd.height
-      → hd.count ≡ length (points_all (more (tree_at m ns hd.height hd.root) none)) → hd.count ≡ length (kept_all (more (tree_at m ns hd.height hd.root) none)) → Checked m ns hd
+  pub passes-checked : (ns : List (Node C R)) (hd : Header) → (hd.count ≡ 0 → ⊥) → (u : Option (Key C)) → Passes m (tree_at m ns hd.top.height hd.top.root) u hd.top.height
+      → hd.count ≡ length (points_all (more (tree_at m ns hd.top.height hd.top.root) none)) → hd.count ≡ length (kept_all (more (tree_at m ns hd.top.height hd.top.root) none)) → Checked m ns hd
   passes-checked ns hd pos u q all some =
-      let t = tree_at m ns hd.height hd.root in
+      let t = tree_at m ns hd.top.height hd.top.root in
       let one : forest_of m ns hd ≡ more t none = rw (ne_eqb hd.count 0 pos) in
-      let rules = passes-rules t u hd.height q (omega (arith, ap length (append-nil (points t)), ap length (append-nil (kept t)))) in
+      let rules = passes-rules t u hd.top.height q (omega (arith, ap length (append-nil (points t)), ap length (append-nil (kept t)))) in
       record {
         rules = λ _. rules;
-        ruled = subst (Whole m hd.height) (sym one) (rules-whole m first second kc kw hd.height t rules);
+        ruled = subst (Whole m hd.top.height) (sym one) (rules-whole m first second kc kw hd.top.height t rules);
         counted = all ∙ ap (λ f. length (points_all f)) (sym one);
       }

@@ -1,6 +1,5 @@
 use Rattle.std.proofs.Common.{◌+◌, ◌*◌, length}
-use Rattle.table.specs.Kids.{kids_of}
 use Rattle.checker.proofs.points.+has_point.Given as goal
 
 abbrev pub decreases-has_point : goal.decreases-has_point
-decreases-has_point g l = 5 * l.height + length (kids_of l.children)
+decreases-has_point g l = 5 * l.height + length l.places.now

@@ -1,9 +1,5 @@
-use Rattle.std.proofs.Common.{length, None, sym, refl, ap, ◌∙◌, subst, eqb-true}
+use Rattle.std.proofs.Common.{None, sym, refl, ◌∙◌, eqb-true}
 use base.Stored.{coded_ℕ}
-use Rattle.trees.specs.Tree.{grow, points_all}
-use Rattle.trees.specs.Rules.{kept_all}
-use Rattle.table.specs.Reading.{tree_at}
-use Rattle.checker.specs.Passes.{PassesAll}
 use Rattle.checker.proofs.Passed.{passes-checked}
 use Rattle.checker.proofs.rules.holds_rules.Goals as goal
 
@@ -12,8 +8,7 @@ returns-then-counts-header g c e =
     let m = g.K.Kind.meaning in
     let ns = c.args.nodes.now in
     let hd = c.args.header in
-    let one = c.one-tree.ensures in
-    let passed = subst (λ ps. PassesAll m (grow (tree_at m ns hd.height) ps) None None hd.height) one (c.if-not-pass_all.ensures refl) in
+    let passed = c.if-not-pass_all.ensures refl in
     passes-checked m g.met.K.Kind.first g.met.K.Kind.second coded_ℕ g.row.K-Weight.coded ns hd c.if-header-eq0.false None passed.1
-    (sym c.if-counts-header.true ∙ c.in-Some.ensures.0 ∙ ap (λ ps. length (points_all (grow (tree_at m ns hd.height) ps))) one)
-    (sym (eqb-true c.in-Some.counts.kept hd.count e) ∙ c.in-Some.ensures.1 ∙ ap (λ ps. length (kept_all (grow (tree_at m ns hd.height) ps))) one)
+    (sym c.if-counts-header.true ∙ c.in-Some.ensures.0)
+    (sym (eqb-true c.in-Some.counts.kept hd.count e) ∙ c.in-Some.ensures.1)
