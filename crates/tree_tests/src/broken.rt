@@ -1,37 +1,48 @@
 // Trees with one node altered: the checker says so of each.
 use crate::checks::check;
-use crate::model::Pt;
 use crate::runs::{Order, blank, sweep};
-use crate::steps::Act;
+use crate::trial::{Act, Points, Trial};
 use build::build::build;
 use checker::rules::holds_rules;
 use kinds::Small;
+use std::collections::BTreeMap;
 use std::test::Fail;
 use table::header::Header;
-use table::node::Node;
+use table::node::{Node, Stored};
 
 // The ways in which a node is altered.
-fn altered(n: Node<u64, u32>, way: u8) -> Node<u64, u32> {
+#[derive(Clone, Copy)]
+enum Damage {
+    Keeping,
+    Coordinate,
+    Number,
+    KeptWeight,
+}
+
+fn altered(n: Node<u64, u32>, damage: Damage) -> Node<u64, u32> {
     let mut node = n;
-    if way == 0 {
-        node.keeps = !n.keeps;
-    } else if way == 1 {
-        node.own.at = n.own.at ^ 0x1000;
-    } else if way == 2 {
-        node.own.number = n.own.number ^ 1;
-    } else {
-        node.kept.weight = n.kept.weight ^ 1;
-        node.keeps = true;
+    let kept = n.kept;
+    match damage {
+        Damage::Keeping => node.kept = if kept.is_some() { None } else { Some(n.own) },
+        Damage::Coordinate => node.own.at = n.own.at ^ 0x1000,
+        Damage::Number => node.own.number = n.own.number ^ 1,
+        Damage::KeptWeight => {
+            let x = kept.unwrap_or(n.own);
+            node.kept = Some(Stored {
+                weight: x.weight ^ 1,
+                ..x
+            });
+        },
     }
     node
 }
 
 // Whether a node can be altered at no place without the checker saying so.
-fn all_seen(nodes: &mut [Node<u64, u32>], header: Header, way: u8) -> Result<(), Fail> {
+fn all_seen(nodes: &mut [Node<u64, u32>], header: Header, damage: Damage) -> Result<(), Fail> {
     for i in 0..nodes.len() {
         let n = nodes[i];
-        if i < header.free.fresh as usize {
-            nodes[i] = altered(n, way);
+        if i < usize::from(header.free.fresh) {
+            nodes[i] = altered(n, damage);
             check(
                 !holds_rules::<Small>(nodes, header),
                 "the rules do not hold",
@@ -42,41 +53,42 @@ fn all_seen(nodes: &mut [Node<u64, u32>], header: Header, way: u8) -> Result<(),
     check(holds_rules::<Small>(nodes, header), "the rules hold again")
 }
 
-// The header of another tree: elsewhere, higher, or of fewer points.
-fn other(header: Header, way: u8) -> Header {
-    let mut new = header;
-    if way == 0 {
-        new.root = 65535;
-    } else if way == 1 {
-        new.height = header.height ^ 1;
-    } else if way == 2 {
-        new.height = 255;
-    } else {
-        new.count = header.count ^ 1;
-    }
-    new
+// Headers of another tree: elsewhere, higher, much higher, or of another number of points.
+fn others(header: Header) -> [Header; 4] {
+    let mut elsewhere = header;
+    elsewhere.top.root = 65535;
+    let mut higher = header;
+    higher.top.height = header.top.height ^ 1;
+    let mut highest = header;
+    highest.top.height = 255;
+    let mut fewer = header;
+    fewer.count = header.count ^ 1;
+    [elsewhere, higher, highest, fewer]
 }
 
 // A tree of twenty points, altered in each way at each place, and under each other header.
-fn all_ways(nodes: &mut [Node<u64, u32>], list: &mut Vec<Pt>) -> Result<(), Fail> {
+fn all_ways(nodes: &mut [Node<u64, u32>], points: &mut Points) -> Result<(), Fail> {
     check(nodes.len() <= 32767, "a table of nodes")?;
-    let mut header = build::<Small>(nodes, 0);
-    sweep::<Small>(
+    let header = build::<Small>(nodes, 0);
+    let mut trial = Trial {
         nodes,
-        &mut header,
-        list,
-        Act::Insert,
-        Order::Inwards,
-        20,
-        false,
-    )?;
+        header,
+        points,
+    };
+    sweep::<Small>(&mut trial, Act::Insert, Order::Inwards, 20, false)?;
+    let Trial { nodes, header, .. } = trial;
     check(header.count == 20, "twenty points")?;
-    for way in 0..4 {
-        all_seen(nodes, header, way)?;
-        check(
-            !holds_rules::<Small>(nodes, other(header, way)),
-            "another header",
-        )?;
+    let ways = [
+        Damage::Keeping,
+        Damage::Coordinate,
+        Damage::Number,
+        Damage::KeptWeight,
+    ];
+    for damage in ways {
+        all_seen(nodes, header, damage)?;
+    }
+    for other in others(header) {
+        check(!holds_rules::<Small>(nodes, other), "another header")?;
     }
     Ok(())
 }
@@ -85,6 +97,6 @@ fn all_ways(nodes: &mut [Node<u64, u32>], list: &mut Vec<Pt>) -> Result<(), Fail
 #[test]
 fn broken(rt: HostRuntime) -> Result<(), Fail> {
     let mut table = [blank(); 63];
-    let mut list = Vec::new(rt.alloc());
-    all_ways(&mut table, &mut list)
+    let mut points = BTreeMap::new(rt.alloc());
+    all_ways(&mut table, &mut points)
 }

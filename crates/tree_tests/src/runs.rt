@@ -2,14 +2,13 @@
 ghost use Rattle.tree.specs.Standing.{Standing};
 
 use crate::checks::check;
-use crate::model::Pt;
-use crate::steps::{Act, step, verify};
+use crate::trial::{Act, Points, Pt, Trial};
 use build::build::build;
 use build::leaf::lay_leaf;
 use kinds::{Kind, Large, Small};
+use std::collections::BTreeMap;
 use std::test::Fail;
 use table::children::Children;
-use table::header::Header;
 use table::node::{Node, Stored};
 
 // In which order the keys of a run come.
@@ -25,12 +24,12 @@ pub enum Order {
 // The coordinate of the i-th key.
 fn key_number(order: Order, i: u32) -> u64 {
     match order {
-        Order::Rising => i as u64,
-        Order::Falling => 0xFFFF_FFFF - i as u64,
+        Order::Rising => u64::from(i),
+        Order::Falling => 0xFFFF_FFFF - u64::from(i),
         Order::Inwards => if i % 2 == 0 {
-            i as u64
+            u64::from(i)
         } else {
-            0xFFFF_FFFF - i as u64
+            0xFFFF_FFFF - u64::from(i)
         },
         Order::Tied => 7,
     }
@@ -47,20 +46,18 @@ pub fn point_of(order: Order, i: u32) -> Pt {
 
 // One change for each of the first n points of an order, from the first on or from the last back.
 pub fn sweep<K: Kind<Coordinate = u64, Recorded = u32>>(
-    nodes: &mut [Node<u64, u32>],
-    header: &mut Header,
-    list: &mut Vec<Pt>,
+    trial: &mut Trial<'_>,
     act: Act,
     order: Order,
     n: u32,
     back: bool,
 ) -> Result<(), Fail>
-    requires { Standing K.Kind.meaning nodes.old header.old }
-    ensures { Standing K.Kind.meaning nodes.new header.new }
+    requires { Standing K.Kind.meaning trial.old.nodes.now trial.old.header }
+    ensures { Standing K.Kind.meaning trial.new.nodes.now trial.new.header }
 {
     for i in 0..n {
         let k = if back { n - 1 - i } else { i };
-        step::<K>(nodes, header, list, act, point_of(order, k))?;
+        trial.step::<K>(act, point_of(order, k))?;
     }
     Ok(())
 }
@@ -105,25 +102,17 @@ fn chance_point(seed: u64, odds: Odds) -> Pt {
 
 // So many changes by chance.
 fn churn<K: Kind<Coordinate = u64, Recorded = u32>>(
-    nodes: &mut [Node<u64, u32>],
-    header: &mut Header,
-    list: &mut Vec<Pt>,
+    trial: &mut Trial<'_>,
     odds: Odds,
     n: u32,
 ) -> Result<(), Fail>
-    requires { Standing K.Kind.meaning nodes.old header.old }
-    ensures { Standing K.Kind.meaning nodes.new header.new }
+    requires { Standing K.Kind.meaning trial.old.nodes.now trial.old.header }
+    ensures { Standing K.Kind.meaning trial.new.nodes.now trial.new.header }
 {
     let mut seed = 0x9E37_79B9_7F4A_7C15;
     for _ in 0..n {
         seed = next(seed);
-        step::<K>(
-            nodes,
-            header,
-            list,
-            act_of(seed, odds.inserts),
-            chance_point(seed, odds),
-        )?;
+        trial.step::<K>(act_of(seed, odds.inserts), chance_point(seed, odds))?;
     }
     Ok(())
 }
@@ -131,46 +120,54 @@ fn churn<K: Kind<Coordinate = u64, Recorded = u32>>(
 // The sweeps of one order: all points in, other weights, all points out from the same end; then in
 // again, and out from the other end.
 fn sweeps<K: Kind<Coordinate = u64, Recorded = u32>>(
-    nodes: &mut [Node<u64, u32>],
-    header: &mut Header,
-    list: &mut Vec<Pt>,
+    trial: &mut Trial<'_>,
     order: Order,
     n: u32,
 ) -> Result<(), Fail>
-    requires { Standing K.Kind.meaning nodes.old header.old }
-    ensures { Standing K.Kind.meaning nodes.new header.new }
+    requires { Standing K.Kind.meaning trial.old.nodes.now trial.old.header }
+    ensures { Standing K.Kind.meaning trial.new.nodes.now trial.new.header }
 {
-    sweep::<K>(nodes, header, list, Act::Insert, order, n, false)?;
-    sweep::<K>(nodes, header, list, Act::Change, order, n, true)?;
-    sweep::<K>(nodes, header, list, Act::Remove, order, n, false)?;
-    sweep::<K>(nodes, header, list, Act::Insert, order, n, false)?;
-    sweep::<K>(nodes, header, list, Act::Remove, order, n, true)
+    sweep::<K>(trial, Act::Insert, order, n, false)?;
+    sweep::<K>(trial, Act::Change, order, n, true)?;
+    sweep::<K>(trial, Act::Remove, order, n, false)?;
+    sweep::<K>(trial, Act::Insert, order, n, false)?;
+    sweep::<K>(trial, Act::Remove, order, n, true)
 }
 
 // All sweeps, one after the other.
 fn all_sweeps<K: Kind<Coordinate = u64, Recorded = u32>>(
     nodes: &mut [Node<u64, u32>],
-    list: &mut Vec<Pt>,
+    points: &mut Points,
     n: u32,
 ) -> Result<(), Fail> {
     check(nodes.len() <= 32767, "a table of nodes")?;
-    let mut header = build::<K>(nodes, 0);
-    sweeps::<K>(nodes, &mut header, list, Order::Rising, n)?;
-    sweeps::<K>(nodes, &mut header, list, Order::Falling, n)?;
-    sweeps::<K>(nodes, &mut header, list, Order::Inwards, n)?;
-    sweeps::<K>(nodes, &mut header, list, Order::Tied, n)
+    let header = build::<K>(nodes, 0);
+    let mut trial = Trial {
+        nodes,
+        header,
+        points,
+    };
+    sweeps::<K>(&mut trial, Order::Rising, n)?;
+    sweeps::<K>(&mut trial, Order::Falling, n)?;
+    sweeps::<K>(&mut trial, Order::Inwards, n)?;
+    sweeps::<K>(&mut trial, Order::Tied, n)
 }
 
 // Changes by chance: the table fills up and stays full, then it empties; then with all weights
 // tied, and with all points at one coordinate.
 fn all_chances<K: Kind<Coordinate = u64, Recorded = u32>>(
     nodes: &mut [Node<u64, u32>],
-    list: &mut Vec<Pt>,
+    points: &mut Points,
     n: u32,
 ) -> Result<(), Fail> {
     check(nodes.len() <= 32767, "a table of nodes")?;
-    let mut header = build::<K>(nodes, 0);
-    list.clear();
+    let header = build::<K>(nodes, 0);
+    points.clear();
+    let mut trial = Trial {
+        nodes,
+        header,
+        points,
+    };
     let wide = 0xFFFF_FFFF;
     let full = Odds {
         coordinates: 255,
@@ -178,12 +175,7 @@ fn all_chances<K: Kind<Coordinate = u64, Recorded = u32>>(
         weights: wide,
         inserts: 6,
     };
-    let bare = Odds {
-        coordinates: 255,
-        numbers: 3,
-        weights: wide,
-        inserts: 2,
-    };
+    let bare = Odds { inserts: 2, ..full };
     let tied = Odds {
         coordinates: 511,
         numbers: 0,
@@ -196,71 +188,71 @@ fn all_chances<K: Kind<Coordinate = u64, Recorded = u32>>(
         weights: 3,
         inserts: 4,
     };
-    churn::<K>(nodes, &mut header, list, full, n)?;
-    churn::<K>(nodes, &mut header, list, bare, n)?;
-    churn::<K>(nodes, &mut header, list, tied, n)?;
-    churn::<K>(nodes, &mut header, list, one, n)
+    churn::<K>(&mut trial, full, n)?;
+    churn::<K>(&mut trial, bare, n)?;
+    churn::<K>(&mut trial, tied, n)?;
+    churn::<K>(&mut trial, one, n)
 }
 
 // Changes by chance on tables of no node to 8 nodes.
 fn tiny<K: Kind<Coordinate = u64, Recorded = u32>>(
     nodes: &mut [Node<u64, u32>],
-    list: &mut Vec<Pt>,
+    points: &mut Points,
 ) -> Result<(), Fail> {
     for k in 0..9 {
         check(k <= nodes.len(), "a part of the table")?;
-        all_chances::<K>(&mut nodes[..k], list, 500)?;
+        all_chances::<K>(&mut nodes[..k], points, 500)?;
     }
     Ok(())
 }
 
 // A node that says nothing.
 pub fn blank() -> Node<u64, u32> {
-    let x = Stored {
+    let own = Stored {
         at: 0,
         number: 0,
         weight: 0,
     };
-    Node {
-        own: x,
-        kept: x,
-        children: Children::none(0),
-        keeps: false,
-    }
+    Node::bare(own, Children::none(0))
 }
 
 // A tree built over so many leaves, with changes of it after that.
 fn built<K: Kind<Coordinate = u64, Recorded = u32>>(
     nodes: &mut [Node<u64, u32>],
-    list: &mut Vec<Pt>,
+    points: &mut Points,
     n: u16,
 ) -> Result<(), Fail> {
     check(nodes.len() <= 32767, "a table of nodes")?;
-    check(2 * n as usize <= nodes.len() + 1, "room for the leaves")?;
-    list.clear();
+    check(2 * usize::from(n) <= nodes.len() + 1, "room for the leaves")?;
+    points.clear();
     for i in 0..n {
-        let x = point_of(Order::Rising, i as u32);
+        let x = point_of(Order::Rising, u32::from(i));
         lay_leaf::<K>(nodes, i, x);
-        list.push(x)?;
+        points.insert(x.key(), x.weight)?;
     }
-    let mut header = build::<K>(nodes, n);
-    verify::<K>(nodes, header, list.as_slice())?;
+    let header = build::<K>(nodes, n);
+    let mut trial = Trial {
+        nodes,
+        header,
+        points,
+    };
+    trial.verify::<K>()?;
     let odds = Odds {
         coordinates: 63,
         numbers: 0,
         weights: 0xFF,
         inserts: 3,
     };
-    churn::<K>(nodes, &mut header, list, odds, 100)
+    churn::<K>(&mut trial, odds, 100)
 }
 
 // Trees over 0 to 64 leaves.
 fn all_builds<K: Kind<Coordinate = u64, Recorded = u32>>(
     nodes: &mut [Node<u64, u32>],
-    list: &mut Vec<Pt>,
+    points: &mut Points,
 ) -> Result<(), Fail> {
     for n in 0..65 {
-        built::<K>(nodes, list, n)?;
+        built::<K>(nodes, points, n)?;
     }
     Ok(())
 }
@@ -269,39 +261,39 @@ fn all_builds<K: Kind<Coordinate = u64, Recorded = u32>>(
 #[test]
 fn builds(rt: HostRuntime) -> Result<(), Fail> {
     let mut table = [blank(); 127];
-    let mut list = Vec::new(rt.alloc());
-    all_builds::<Small>(&mut table, &mut list)
+    let mut points = BTreeMap::new(rt.alloc());
+    all_builds::<Small>(&mut table, &mut points)
 }
 
 // Every order on a table for 32 points, of kind small.
 #[test]
 fn sweeps_small(rt: HostRuntime) -> Result<(), Fail> {
     let mut table = [blank(); 63];
-    let mut list = Vec::new(rt.alloc());
-    all_sweeps::<Small>(&mut table, &mut list, 40)
+    let mut points = BTreeMap::new(rt.alloc());
+    all_sweeps::<Small>(&mut table, &mut points, 40)
 }
 
 // Every order on a table for 256 points, of kind large.
 #[test]
 fn sweeps_large(rt: HostRuntime) -> Result<(), Fail> {
     let mut table = [blank(); 511];
-    let mut list = Vec::new(rt.alloc());
-    all_sweeps::<Large>(&mut table, &mut list, 300)
+    let mut points = BTreeMap::new(rt.alloc());
+    all_sweeps::<Large>(&mut table, &mut points, 300)
 }
 
 // Chance on tables of no node to 8, and on one for 32 points, of kind small.
 #[test]
 fn chances_small(rt: HostRuntime) -> Result<(), Fail> {
     let mut table = [blank(); 63];
-    let mut list = Vec::new(rt.alloc());
-    tiny::<Small>(&mut table, &mut list)?;
-    all_chances::<Small>(&mut table, &mut list, 10000)
+    let mut points = BTreeMap::new(rt.alloc());
+    tiny::<Small>(&mut table, &mut points)?;
+    all_chances::<Small>(&mut table, &mut points, 10000)
 }
 
 // Chance on a table for 256 points, of kind large.
 #[test]
 fn chances_large(rt: HostRuntime) -> Result<(), Fail> {
     let mut table = [blank(); 511];
-    let mut list = Vec::new(rt.alloc());
-    all_chances::<Large>(&mut table, &mut list, 4000)
+    let mut points = BTreeMap::new(rt.alloc());
+    all_chances::<Large>(&mut table, &mut points, 4000)
 }

@@ -1,5 +1,6 @@
 // A tree in a table, and the same points in a map beside it: one change of both, and the tests after
 // it.
+ghost use Rattle.std.specs.Prelude.{◌≡◌, suc, ◌*◌, ◌≤◌, true, length};
 ghost use Rattle.tree.specs.Standing.{Standing};
 
 use crate::checks::check;
@@ -38,7 +39,9 @@ pub struct Trial<'a> {
 
 impl<'a> Trial<'a> {
     // Whether the table has room for one point more.
-    fn has_room(&self) -> bool {
+    fn has_room(&self) -> bool
+        ensures { result ≡ true → 2 * suc self.now.header.count ≤ suc (length self.now.nodes.now) }
+    {
         2 * (usize::from(self.header.count) + 1) <= self.nodes.len() + 1
     }
 
@@ -87,8 +90,9 @@ impl<'a> Trial<'a> {
             "as many points",
         )?;
         for (key, weight) in self.points.iter() {
-            let found = find::<K>(self.nodes, self.header, *key).map(K::record);
-            check(found == Some(*weight), "the same points")?;
+            let found = find::<K>(self.nodes, self.header, *key);
+            let same = found.is_some_and(|w| K::record(w) == *weight);
+            check(same, "the same points")?;
         }
         Ok(())
     }
