@@ -95,13 +95,13 @@ module _ {C W R : Type 0} {m : Meaning C W R} {a : List (Node C R)} {f : Free} w
       }
 
       -- the first child stays the first, so that a node over these places can be written
-      pub first-within : (qs : List ℕ) (k : Children) → kids_of k ≡ take i ks ++ ((c ∷ qs) ++ drop (i + 1) ks) → (0 < length (kids_of k)) × (get_or (kids_of k) 0 0 < length a)
+      pub first-within : (qs : List ℕ) (k : Children) → kids_of k ≡ take i ks ++ ((c ∷ qs) ++ drop (i + 1) ks) → get_or (kids_of k) 0 0 < length a
       first-within qs k e = rw e (go i ks lt (kids-within m a h at n is (ready-sound r)))
         where
-          go : (i : ℕ) (ks : List ℕ) → i < length ks → AllByRecursion (λ q. q < length a) ks → (0 < length (take i ks ++ ((get_or ks i 0 ∷ qs) ++ drop (i + 1) ks))) × (get_or (take i ks ++ ((get_or ks i 0 ∷ qs) ++ drop (i + 1) ks)) 0 0 < length a)
+          go : (i : ℕ) (ks : List ℕ) → i < length ks → AllByRecursion (λ q. q < length a) ks → get_or (take i ks ++ ((get_or ks i 0 ∷ qs) ++ drop (i + 1) ks)) 0 0 < length a
           go i [] lt w = absurd (omega arith)
-          go zero (k ∷ ks) lt w = (omega arith, w.0)
-          go (suc i) (k ∷ ks) lt w = (omega arith, w.0)
+          go zero (k ∷ ks) lt w = w.0
+          go (suc i) (k ∷ ks) lt w = w.0
 
       module _ (x : Point C W) where
         abbrev pub grown : Forest C W × List ℕ

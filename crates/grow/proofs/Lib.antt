@@ -2,7 +2,6 @@ pub mod Readies
 pub mod Leaves
 pub mod Forked
 pub mod Splits
-pub mod Halved
 pub mod Overflows
 pub mod Plants
 pub mod Stands

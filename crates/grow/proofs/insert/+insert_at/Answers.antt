@@ -20,20 +20,26 @@ pick_child-i-requires g t c =
 pub insert_at-requires : goal.insert_at-requires
 insert_at-requires g t c κs within = (omega arith, (within.0, (within.1.0, (within.1.1.0, (within.1.1.1, rw (c.at.ensures) (child-ready (ready_up c.if-tree-eq0.false c.requires) c.read-n.ensures c.pick_child-i.result c.pick_child-i.ensures.below))))))
 
-pub rewrite-requires : goal.rewrite-requires
-rewrite-requires g t c =
-    let first = first-within (ready_up c.if-tree-eq0.false c.requires) c.read-n.ensures c.pick_child-i.result c.pick_child-i.ensures.below [] c.read-n.result.children (same-places c.pick_child-i.result (kids_of c.read-n.result.children) c.pick_child-i.ensures.below) in
-    record { within = omega (arith, root-within c.requires, c.insert_at.auto.nodes); some = first.0; first = rw (c.insert_at.auto.nodes) first.1 }
+pub rewrite-requires-clause-within : goal.rewrite-requires-clause-within
+rewrite-requires-clause-within g t c = omega (arith, root-within c.requires, c.insert_at.auto.nodes)
+
+pub rewrite-requires-clause-first : goal.rewrite-requires-clause-first
+rewrite-requires-clause-first g t c =
+    rw (c.insert_at.auto.nodes)
+    (first-within (ready_up c.if-tree-eq0.false c.requires) c.read-n.ensures c.pick_child-i.result c.pick_child-i.ensures.below [] c.read-n.result.children (same-places c.pick_child-i.result (kids_of c.read-n.result.children) c.pick_child-i.ensures.below))
 
 pub returns-in_default : goal.returns-in_default
 returns-in_default g t c =
     rw (c.rewrite.ensures.after, up c.args.tree.height c.if-tree-eq0.false)
     (fits (ready_up c.if-tree-eq0.false c.requires) c.read-n.ensures c.pick_child-i.result c.pick_child-i.ensures.below (point_in g.K.Kind.meaning c.args.x) (rw (c.at.ensures, c.in_default.is) at c.insert_at.ensures) c.insert_at.auto.nodes c.read-n.result.children c.rewrite.ensures.first (same-places c.pick_child-i.result (kids_of c.read-n.result.children) c.pick_child-i.ensures.below) c.rewrite.ensures.is (rw (c.key.ensures) at c.pick_child-i.ensures.is))
 
-pub rewrite-requires-then-len-lt4 : goal.rewrite-requires-then-len-lt4
-rewrite-requires-then-len-lt4 g t c =
-    let first = first-within (ready_up c.if-tree-eq0.false c.requires) c.read-n.ensures c.pick_child-i.result c.pick_child-i.ensures.below (c.in-Some.q ∷ []) c.insert.result (c.insert.ensures ∙ next-places c.pick_child-i.result c.in-Some.q (kids_of c.read-n.result.children) c.pick_child-i.ensures.below) in
-    record { within = omega (arith, root-within c.requires, c.insert_at.auto.nodes); some = first.0; first = rw (c.insert_at.auto.nodes) first.1 }
+pub rewrite-requires-then-len-lt4-clause-within : goal.rewrite-requires-then-len-lt4-clause-within
+rewrite-requires-then-len-lt4-clause-within g t c = omega (arith, root-within c.requires, c.insert_at.auto.nodes)
+
+pub rewrite-requires-then-len-lt4-clause-first : goal.rewrite-requires-then-len-lt4-clause-first
+rewrite-requires-then-len-lt4-clause-first g t c =
+    rw (c.insert_at.auto.nodes)
+    (first-within (ready_up c.if-tree-eq0.false c.requires) c.read-n.ensures c.pick_child-i.result c.pick_child-i.ensures.below (c.in-Some.q ∷ []) c.insert.result (c.insert.ensures ∙ next-places c.pick_child-i.result c.in-Some.q (kids_of c.read-n.result.children) c.pick_child-i.ensures.below))
 
 pub returns-then-len-lt4 : goal.returns-then-len-lt4
 returns-then-len-lt4 g t c =
@@ -45,11 +51,6 @@ take-next-requires-clause-some g t c = spare-left (ready_up c.if-tree-eq0.false 
 
 pub take-next-requires-clause-within : goal.take-next-requires-clause-within
 take-next-requires-clause-within g t c = spares-in (ready_up c.if-tree-eq0.false c.requires) c.read-n.ensures c.pick_child-i.result c.pick_child-i.ensures.below (point_in g.K.Kind.meaning c.args.x) (rw (c.at.ensures, c.in-Some.is) at c.insert_at.ensures) c.insert_at.auto.nodes
-
-pub halve-requires : goal.halve-requires
-halve-requires g t c =
-    let four : length (kids_of c.read-n.result.children) ≡ 4 = omega (arith, few c.read-n.result.children) in
-    record { full = four; within = omega arith }
 
 pub split-requires : goal.split-requires
 split-requires g t c =

@@ -6,9 +6,6 @@ use Rattle.grow.proofs.Readies.{root-within, spares-within, next-within}
 use Rattle.grow.proofs.Leaves.{leaf-before, leaf-after}
 use Rattle.grow.proofs.leaf.add_leaf.Goals as goal
 
-pub read-old-requires : goal.read-old-requires
-read-old-requires g c = root-within c.requires
-
 pub take-next-requires-clause-within : goal.take-next-requires-clause-within
 take-next-requires-clause-within g c = spares-within c.requires
 

@@ -1,12 +1,9 @@
 use Rattle.table.specs.Keys.{key_in}
-use Rattle.grow.proofs.Splits.{p-within, q-within, p-off, q-off, rights-sound, both-sound, split_done}
+use Rattle.grow.proofs.Splits.{p-within, q-within, q-off, rights-sound, both-sound, split_done}
 use Rattle.grow.proofs.split.split.Goals as goal
 
 pub settle-requires-clause-within : goal.settle-requires-clause-within
 settle-requires-clause-within g c = p-within c.requires
-
-pub settle-requires-clause-apart : goal.settle-requires-clause-apart
-settle-requires-clause-apart g c = p-off c.requires
 
 pub settle-requires-2-clause-within : goal.settle-requires-2-clause-within
 settle-requires-2-clause-within g c = rw (c.settle.auto.nodes) (q-within c.requires)

@@ -1,18 +1,12 @@
 use Rattle.table.specs.Reading.{point_in}
 use Rattle.tree.specs.Standing.{forest_of}
 use Rattle.grow.specs.Planted.{Planted}
-use Rattle.grow.proofs.Stands.{spares-in, spares-once, some-spare, empty, one-tree, enough, ready, low, stands_on, rules-on, any-height}
+use Rattle.grow.proofs.Stands.{spares-in, some-spare, empty, one-tree, enough, ready, low, stands_on, rules-on, any-height}
 use Rattle.grow.proofs.whole.insert.Goals.{then-old-eq0, else-old-eq0}
 use Rattle.grow.proofs.whole.insert.Goals as goal
 
-pub plant-top-requires-clause-some : goal.plant-top-requires-clause-some
-plant-top-requires-clause-some g c = some-spare c.requires.standing c.requires.room c.if-old-eq0.true
-
 pub plant-top-requires-clause-within : goal.plant-top-requires-clause-within
 plant-top-requires-clause-within g c = spares-in c.requires.standing c.requires.room
-
-pub plant-top-requires-clause-apart : goal.plant-top-requires-clause-apart
-plant-top-requires-clause-apart g c = spares-once c.requires.standing c.requires.room
 
 pub extend-top-requires-clause-ready : goal.extend-top-requires-clause-ready
 extend-top-requires-clause-ready g c = ready c.requires.standing c.requires.room c.if-old-eq0.false
