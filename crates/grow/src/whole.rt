@@ -7,7 +7,7 @@ ghost use Rattle.refusals.specs.Limits.{most_nodes};
 ghost use Rattle.trees.specs.Tree.{none, more};
 ghost use Rattle.shapes.specs.Shape.{full, occurs};
 ghost use Rattle.table.specs.Spares.{spares};
-ghost use Rattle.table.specs.Reading.{point_in, tree_at};
+ghost use Rattle.table.specs.Reading.{point_in, tree_of};
 ghost use Rattle.table.specs.Keys.{key_in};
 ghost use Rattle.tree.specs.Standing.{points_of, Standing, Ruled};
 ghost use Rattle.grow.specs.Grown.{Ready, most};
@@ -48,9 +48,9 @@ fn extend<K: Kind>(
     x: Stored<K::Coordinate, K::Recorded>,
 ) -> Subtree
     requires ready { Ready K.Kind.meaning nodes.old free.old top.height top.root }
-    requires room { suc (suc (full (tree_at K.Kind.meaning nodes.old top.height top.root) most)) ≤ length (spares nodes.old free.old) }
+    requires room { suc (suc (full (tree_of K.Kind.meaning nodes.old top) most)) ≤ length (spares nodes.old free.old) }
     requires low { top.height < 255 }
-    ensures { Planted K.Kind.meaning nodes.old nodes.new free.old free.new top.height (more (tree_at K.Kind.meaning nodes.old top.height top.root) none) (point_in K.Kind.meaning x) result.height result.root }
+    ensures { Planted K.Kind.meaning nodes.old nodes.new free.old free.new top.height (more (tree_of K.Kind.meaning nodes.old top) none) (point_in K.Kind.meaning x) result.height result.root }
 {
     let Some(q) = insert_at::<K>(nodes, free, top, x) else {
         seat::<K>(nodes, Children::of(&[top.root]), top.height, x);
