@@ -1,6 +1,6 @@
--- Small facts: the children of a root, and trees that differ only in the points they keep.
-use Rattle.std.proofs.Common.{◌≡◌, ℕ, suc, ◌+◌, ◌-◌, List, length, Some, Option, sym, refl, ap, ◌∙◌, subst, arith}
-use Rattle.std.specs.List.{slice_get}
+-- Small facts: the children of a root, places given back, and trees that differ only in the points they keep.
+use Rattle.std.proofs.Common.{◌≡◌, ℕ, suc, ◌+◌, ◌-◌, ◌<◌, List, length, Some, Option, sym, refl, ap, ◌∙◌, subst, arith}
+use Rattle.std.specs.List.{slice_get, AllByRecursion}
 use Rattle.kinds.specs.Meaning.{Meaning}
 use Rattle.plain.specs.declared.point.Point.{Point}
 use Rattle.trees.specs.Tree.{Tree, Forest, gone, leaf, fork, grow, count, children_of, place_of, hit, uses, uses_all}
@@ -8,6 +8,10 @@ use Rattle.trees.specs.Rules.{Level, LevelAll}
 use Rattle.trees.specs.Moves.{seated}
 use Rattle.trees.proofs.Bares.{bare_all, alike-uses_all, alike-level_all, alike-degrees_all, seated-bare}
 use Rattle.table.specs.declared.node.Node.{Node}
+use Rattle.table.specs.declared.free.Free.{Free}
+use Rattle.table.specs.Spares.{spares}
+use Rattle.shapes.specs.Shape.{occurs}
+use Rattle.tree.proofs.Spared.{none-occurring}
 use Rattle.table.specs.Kids.{kids_of}
 use Rattle.table.specs.Reading.{kept_in, tree_at, Sounds}
 use Rattle.table.specs.Keys.{key_in}
@@ -33,6 +37,18 @@ module _ {C W : Type 0} where
     level = alike-level_all us vs e h s.level;
     degrees = alike-degrees_all us vs e 1 4 s.degrees;
     apart = λ q. omega (arith, alike-uses_all us vs e q, s.apart q);
+  }
+
+-- ---- a place that can be given back
+module _ {C R : Type 0} (b : List (Node C R)) (f : Free) (p : ℕ) where
+  abbrev pub Givable : Type 0
+  Givable = record { within : p < length b; apart : AllByRecursion (λ q. q ≡ p → ⊥) (spares b f); room : length (spares b f) < 65535 }
+
+  pub givable : (qs : List ℕ) → p < length b → spares b f ≡ qs → occurs p qs ≡ 0 → length qs < 65535 → Givable
+  givable qs within same off room = record {
+    within = within;
+    apart = subst (AllByRecursion (λ q. q ≡ p → ⊥)) (sym same) (none-occurring p qs off);
+    room = omega (arith, ap length same);
   }
 
 -- ---- a point joins those kept in some trees, and then another one

@@ -1,6 +1,6 @@
 -- Two neighbours whose children are laid out anew: in the table, as in the tree.
 use Rattle.std.proofs.Common.{◌≡◌, ℕ, suc, ◌+◌, ◌-◌, ◌<◌, ◌≤◌, List, [], ◌∷◌, ◌++◌, length, Some, None, sym, ap, ◌∙◌, subst, arith}
-use Rattle.std.specs.List.{slice_get, AllByRecursion}
+use Rattle.std.specs.List.{slice_get}
 use Rattle.kinds.specs.Meaning.{Meaning}
 use Rattle.plain.specs.declared.point.Key.{Key}
 use Rattle.trees.specs.Tree.{Tree, Forest, fork, none, more, ◌⊕◌, grow, count, children_of, kept_by, hit, uses, uses_all}
@@ -20,9 +20,9 @@ use Rattle.tree.specs.Places.{kept_of_node}
 use Rattle.tree.specs.Forests.{Laid, Seated}
 use Rattle.tree.proofs.Picks.{kept-tree}
 use Rattle.tree.proofs.Settles.{tree-sound}
-use Rattle.tree.proofs.Spared.{none-occurring, spares-kept}
+use Rattle.tree.proofs.Spared.{spares-kept}
 use Rattle.shrink.specs.Joins.{Neighbours, Spared, Fused, Shared}
-use Rattle.shrink.proofs.Basics.{children-were, count-were, uses-children, level-children, sounds-alike, both-seated, both-like, both-frame}
+use Rattle.shrink.proofs.Basics.{Givable, givable, children-were, count-were, uses-children, level-children, sounds-alike, both-seated, both-like, both-frame}
 
 -- a fork over sound trees that it is not part of
 fork-sounds : {C W : Type 0} (n H p : ℕ) (k : Key C) (ts : Forest C W) → H ≡ suc (H - 1) → Sounds n (H - 1) ts → 0 < count ts → count ts ≤ 4 → ((q : ℕ) → hit p q + uses_all ts q ≤ inside n q) → Sounds n H (more (fork p k None ts) none)
@@ -221,14 +221,8 @@ module _ {C W R : Type 0} {m : Meaning C W R} {a : List (Node C R)} {H l r : ℕ
       free-same : spares d f ≡ spares a f
       free-same = spares-kept a d f (len-d ∙ len-c ∙ len-b) (λ q u. frame-d q (omega (arith, sp.apart q, inside_one (length a) q)) (omega (arith, sp.apart q, inside_one (length a) q)))
 
-      pub give-within : r < length d
-      give-within = omega (arith, within-r)
-
-      pub give-apart : AllByRecursion (λ q. q ≡ r → ⊥) (spares d f)
-      give-apart = subst (AllByRecursion (λ q. q ≡ r → ⊥)) (sym free-same) (none-occurring r (spares a f) (omega (arith, sp.apart r, inside_one (length a) r, root-r)))
-
-      pub give-room : length (spares d f) < 65535
-      give-room = subst (λ qs. length qs < 65535) (sym free-same) sp.room
+      pub right-givable : Givable d f r
+      right-givable = givable d f r (spares a f) (omega (arith, within-r)) free-same (omega (arith, sp.apart r, inside_one (length a) r, root-r)) sp.room
 
       pub fused : {z : List (Node C R)} {g : Free} → spares z g ≡ r ∷ spares d f → ((q : ℕ) → (q ≡ r → ⊥) → slice_get z q ≡ slice_get d q) → Fused m a z H l r f g
       fused {z} {g} given frame =

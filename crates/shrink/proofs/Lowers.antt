@@ -1,7 +1,7 @@
 -- A root with one child goes: in the table, as in the tree.
-use Rattle.std.proofs.Common.{◌≡◌, ℕ, suc, ◌+◌, ◌-◌, ◌<◌, ◌≤◌, cond, List, [], ◌∷◌, length, get_or, Some, sym, refl, ap, ◌∙◌, subst, arith, le-leb}
+use Rattle.std.proofs.Common.{◌≡◌, ℕ, suc, ◌+◌, ◌-◌, ◌<◌, ◌≤◌, cond, List, [], ◌∷◌, length, get_or, Some, sym, refl, ap, ◌∙◌, arith, le-leb}
 use borrow.Author.Tests.{lt-leb}
-use Rattle.std.specs.List.{slice_get, AllByRecursion}
+use Rattle.std.specs.List.{slice_get}
 use Rattle.kinds.specs.Meaning.{Meaning}
 use Rattle.trees.specs.Tree.{Tree, none, more, grow, count, children_of, place_of, kept_by, hit, uses, uses_all}
 use Rattle.trees.specs.Moves.{seated, lowered}
@@ -17,9 +17,9 @@ use Rattle.tree.specs.Forests.{Seated}
 use Rattle.tree.specs.Places.{kept_of_node}
 use Rattle.tree.proofs.Heights.{sound-up}
 use Rattle.tree.proofs.Picks.{kept-tree}
-use Rattle.tree.proofs.Spared.{none-occurring, spares-kept}
+use Rattle.tree.proofs.Spared.{spares-kept}
 use Rattle.shrink.specs.Lowers.{Lowerable, Lowered}
-use Rattle.shrink.proofs.Basics.{seated-like, children-were, count-were, uses-children}
+use Rattle.shrink.proofs.Basics.{Givable, givable, seated-like, children-were, count-were, uses-children}
 
 single : (ps : List ℕ) → 0 < length ps → length ps < 2 → get_or ps 0 0 ∷ [] ≡ ps
 single [] some few = absurd (omega arith)
@@ -63,14 +63,8 @@ module _ {C W R : Type 0} {m : Meaning C W R} {a : List (Node C R)} {f : Free} {
     free-same : spares b f ≡ spares a f
     free-same = spares-kept a b f len (λ q u. st.frame q (omega (arith, s.apart q, counted q, inside_one (length a) q)))
 
-    pub root-within : p < length b
-    root-within = omega (arith, sound-within m a H p s.sound)
-
-    pub root-apart : AllByRecursion (λ q. q ≡ p → ⊥) (spares b f)
-    root-apart = subst (AllByRecursion (λ q. q ≡ p → ⊥)) (sym free-same) (none-occurring p (spares a f) (omega (arith, s.apart p, counted p, hit-here p, inside_one (length a) p)))
-
-    pub root-room : length (spares b f) < 65535
-    root-room = subst (λ qs. length qs < 65535) (sym free-same) s.room
+    pub root-givable : Givable b f p
+    root-givable = givable b f p (spares a f) (omega (arith, sound-within m a H p s.sound)) free-same (omega (arith, s.apart p, counted p, hit-here p, inside_one (length a) p)) s.room
 
     pub root-gone : {c : List (Node C R)} {g : Free} {r : ℕ} → r ≡ get_or ps 0 0 → spares c g ≡ p ∷ spares b f → ((q : ℕ) → (q ≡ p → ⊥) → slice_get c q ≡ slice_get b q) → Lowered m a c f g H p (H - 1) r
     root-gone {c} {g} {r} r-is given frame =

@@ -1,6 +1,6 @@
 -- A tree without one leaf: in the table, as in the tree.
 use Rattle.std.proofs.Common.{◌≡◌, ℕ, zero, suc, ◌+◌, ◌-◌, ◌<◌, ◌≤◌, Bool, cond, eqb, ltb, leb, List, ◌∷◌, ◌++◌, length, get_or, take, drop, Some, Option, sym, refl, ap, ◌∙◌, subst, arith}
-use Rattle.std.specs.List.{slice_get, AllByRecursion}
+use Rattle.std.specs.List.{slice_get}
 use Rattle.std.proofs.lemmas.Bool.{cond_both}
 use Rattle.kinds.specs.Meaning.{Meaning}
 use Rattle.plain.specs.declared.point.Key.{Key}
@@ -24,10 +24,10 @@ use Rattle.table.proofs.Steps.{inside-lt, inside_one, sound-within, fork-was}
 use Rattle.tree.specs.Places.{pick_at}
 use Rattle.tree.proofs.Picks.{pick-tree}
 use Rattle.tree.proofs.Settles.{tree-sound}
-use Rattle.tree.proofs.Spared.{none-occurring, spares-kept}
+use Rattle.tree.proofs.Spared.{spares-kept}
 use Rattle.shrink.specs.Removes.{Renewed, Mendable, Mended, Ready, Removed, under}
 use Rattle.shrink.proofs.Lists.{put_back}
-use Rattle.shrink.proofs.Basics.{uses-children}
+use Rattle.shrink.proofs.Basics.{Givable, givable, uses-children}
 
 -- ---- trees by themselves
 module _ {C W : Type 0} where
@@ -187,15 +187,9 @@ module _ {C W R : Type 0} {m : Meaning C W R} {a : List (Node C R)} {f : Free} w
     not-child : (q : ℕ) → uses (branch_at c) q ≡ 0 → q ≡ c → ⊥
     not-child q z e = let z' = subst (λ x. uses (branch_at c) x ≡ 0) e z in omega (arith, child-uses c, hit-here c)
 
-    pub child-within : c < length a
-    child-within = inside-lt (length a) c (omega (arith, apart c, counted c, child-uses c, hit-here c))
-
     -- ---- the child is a leaf, and goes
-    pub child-apart : AllByRecursion (λ q. q ≡ c → ⊥) (spares a f)
-    child-apart = none-occurring c (spares a f) (omega (arith, apart c, counted c, child-uses c, hit-here c, inside_one (length a) c))
-
-    pub child-room : length (spares a f) < 65535
-    child-room = omega (arith, room)
+    pub child-givable : Givable a f c
+    child-givable = givable a f c (spares a f) (inside-lt (length a) c (omega (arith, apart c, counted c, child-uses c, hit-here c))) refl (omega (arith, apart c, counted c, child-uses c, hit-here c, inside_one (length a) c)) (omega (arith, room))
 
     module _ (k : Key C) (picked : i ≡ pick_at m a k ps) (b : List (Node C R)) (stays : (q : ℕ) → (q ≡ c → ⊥) → slice_get b q ≡ slice_get a q) where
       -- the children without it

@@ -1,6 +1,5 @@
 -- The whole tree without a key: in the table, as in the tree.
 use Rattle.std.proofs.Common.{◌≡◌, ℕ, suc, ◌+◌, ◌-◌, ◌<◌, ◌≤◌, true, eqb, List, ◌∷◌, length, sym, refl, ap, ◌∙◌, subst, arith, length-append, pow_pos, eq-eqb, ne_eqb}
-use Rattle.std.specs.List.{AllByRecursion}
 use Rattle.std.proofs.lemmas.Bool.{cond-true, cond-false}
 use Rattle.kinds.specs.Meaning.{Meaning, First, Second}
 use Rattle.plain.specs.declared.point.Key.{Key}
@@ -24,10 +23,10 @@ use Rattle.table.specs.Reading.{tree_at, inside, Sound, Became}
 use Rattle.table.proofs.Frames.{hit-here, place_at}
 use Rattle.table.proofs.Steps.{inside_one, sound-within}
 use Rattle.tree.specs.Standing.{forest_of, points_of, Standing, Ruled}
-use Rattle.tree.proofs.Spared.{none-occurring, spares-kept}
+use Rattle.tree.proofs.Spared.{spares-kept}
 use Rattle.shrink.specs.Removes.{Ready, Removed}
 use Rattle.shrink.specs.Lowers.{Lowerable, Lowered}
-use Rattle.shrink.proofs.Basics.{uses-children}
+use Rattle.shrink.proofs.Basics.{Givable, givable, uses-children}
 use Rattle.shrink.proofs.Removes.{looser, loose-root, size-some, root-degrees, cut-shrunk}
 
 -- a tree has points
@@ -113,14 +112,8 @@ module _ {C W R : Type 0} {m : Meaning C W R} {a : List (Node C R)} {hd : Header
     free-same : spares b f ≡ qs
     free-same = spares-kept a b f len (λ q u. bec.frame q (omega (arith, places q, inside_one (length a) q)))
 
-    pub root-within : p < length b
-    root-within = omega (arith, sound-within m a tall p root-sound)
-
-    pub root-apart : AllByRecursion (λ q. q ≡ p → ⊥) (spares b f)
-    root-apart = subst (AllByRecursion (λ q. q ≡ p → ⊥)) (sym free-same) (none-occurring p qs (omega (arith, places p, uses-children t p, ap (λ x. hit x p) (place_at m a tall p), hit-here p, inside_one (length a) p)))
-
-    pub root-room : length (spares b f) < 65535
-    root-room = omega (arith, ap length free-same, free, st.small)
+    pub root-givable : Givable b f p
+    root-givable = givable b f p qs (omega (arith, sound-within m a tall p root-sound)) free-same (omega (arith, places p, uses-children t p, ap (λ x. hit x p) (place_at m a tall p), hit-here p, inside_one (length a) p)) (omega (arith, free, st.small))
 
     -- the tree was a leaf, which goes
     module _ (z : tall ≡ 0) where

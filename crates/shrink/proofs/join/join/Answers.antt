@@ -1,23 +1,13 @@
 use Rattle.std.proofs.Common.{◌≡◌, suc, ◌+◌, ◌-◌, ◌≤◌, cond, length, sym, ap, ◌∙◌, arith, length-append}
 use Rattle.table.specs.Kids.{kids_of}
-use Rattle.table.proofs.Cases.{few}
-use Rattle.shrink.proofs.Joins.{within-l, within-r, count-l, count-r}
+use Rattle.shrink.proofs.Joins.{count-l, count-r}
 use Rattle.shrink.proofs.Sides.{joint-fused, joint-shared, parts_same}
 use Rattle.shrink.proofs.join.join.Goals as goal
 
-pub read-requires : goal.read-requires
-read-requires g c = within-l c.requires.pair
-
-pub read-requires-2 : goal.read-requires-2
-read-requires-2 g c = within-r c.requires.pair
-
-pub overflow_add-len : goal.overflow_add-len
-overflow_add-len g c = omega (arith, few c.read.result.children, few c.read-2.result.children, c.len.ensures, c.len-2.ensures)
-
-pub fuse-requires : goal.fuse-requires
-fuse-requires g c =
+pub fuse-requires-clause-few : goal.fuse-requires-clause-few
+fuse-requires-clause-few g c =
     let s = c.requires.pair in
-    record { pair = s; spared = c.requires.spared; few = omega (arith, count-l s c.read.ensures, count-r s c.read-2.ensures, c.len.ensures, c.len-2.ensures, c.if-len-lt4.true) }
+    omega (arith, count-l s c.read.ensures, count-r s c.read-2.ensures, c.len.ensures, c.len-2.ensures, c.if-len-lt4.true)
 
 pub returns-then-len-lt4 : goal.returns-then-len-lt4
 returns-then-len-lt4 g c = joint-fused c.requires.pair c.read.ensures c.read-2.ensures c.args.left (omega (arith, c.len.ensures, c.len-2.ensures, c.if-len-lt4.true)) c.fuse.ensures

@@ -39,28 +39,22 @@ settle-requires-2 g c =
       apart = right-off-now s xs ys c.requires.same k c.settle.auto.nodes c.requires.some.0 (few c.args.new.left) c.settle.ensures;
     }
 
-pub seat_kept-requires : goal.seat_kept-requires
-seat_kept-requires g c =
+pub seat_kept-requires-clause-sounds : goal.seat_kept-requires-clause-sounds
+seat_kept-requires-clause-sounds g c =
     let s = c.requires.pair in
     let xs = kids_of c.args.new.left in
     let ys = kids_of c.args.new.right in
     let k = key_in c.read-first.result.own in
-    rw c.of-both.ensures (record {
-      some = omega arith;
-      sounds = two-sounds s xs ys c.requires.same k c.settle.auto.nodes c.requires.some.0 (few c.args.new.left) c.settle.ensures c.settle-2.auto.nodes c.requires.some.1 (few c.args.new.right) c.settle-2.ensures;
-    })
+    rw c.of-both.ensures (two-sounds s xs ys c.requires.same k c.settle.auto.nodes c.requires.some.0 (few c.args.new.left) c.settle.ensures c.settle-2.auto.nodes c.requires.some.1 (few c.args.new.right) c.settle-2.ensures)
 
-pub seat_kept-requires-2 : goal.seat_kept-requires-2
-seat_kept-requires-2 g c =
+pub seat_kept-requires-2-clause-sounds : goal.seat_kept-requires-2-clause-sounds
+seat_kept-requires-2-clause-sounds g c =
     let s = c.requires.pair in
     let xs = kids_of c.args.new.left in
     let ys = kids_of c.args.new.right in
     let k = key_in c.read-first.result.own in
     let first = rw c.of-both.ensures at c.seat_kept.ensures in
-    rw c.of-both.ensures (record {
-      some = omega arith;
-      sounds = seated-sounds c.seat_kept.auto.nodes first (two-sounds s xs ys c.requires.same k c.settle.auto.nodes c.requires.some.0 (few c.args.new.left) c.settle.ensures c.settle-2.auto.nodes c.requires.some.1 (few c.args.new.right) c.settle-2.ensures);
-    })
+    rw c.of-both.ensures (seated-sounds c.seat_kept.auto.nodes first (two-sounds s xs ys c.requires.same k c.settle.auto.nodes c.requires.some.0 (few c.args.new.left) c.settle.ensures c.settle-2.auto.nodes c.requires.some.1 (few c.args.new.right) c.settle-2.ensures))
 
 pub returns : goal.returns
 returns g c =

@@ -5,7 +5,7 @@ use Rattle.table.proofs.Steps.{sound-within, kids-some, kids-within}
 use Rattle.shrink.specs.Removes.{Renewed}
 use Rattle.shrink.proofs.Lists.{first_left, some_left}
 use Rattle.shrink.proofs.Renews.{renewed}
-use Rattle.shrink.proofs.Removes.{ready-sound, ready-up, removed-down, two, here, within, child-within, child-apart, child-room, removed-leaf, child-ready, mendable, removed-fork}
+use Rattle.shrink.proofs.Removes.{ready-sound, ready-up, removed-down, two, here, within, child-givable, removed-leaf, child-ready, mendable, removed-fork}
 use Rattle.shrink.proofs.remove.+remove_at.Goals as goal
 
 pub read-n-requires : goal.read-n-requires
@@ -23,11 +23,7 @@ pick_child-i-requires g t c =
 
 pub give-requires : goal.give-requires
 give-requires g t c =
-    let s = ready-up c.requires in
-    let is = c.read-n.ensures in
-    let i = c.pick_child-i.result in
-    let lt = c.pick_child-i.ensures.below in
-    rw c.at.ensures (record { within = child-within s is i lt; apart = child-apart s is i lt; room = child-room s is i lt })
+    rw c.at.ensures (child-givable (ready-up c.requires) c.read-n.ensures c.pick_child-i.result c.pick_child-i.ensures.below)
 
 pub rewrite-requires : goal.rewrite-requires
 rewrite-requires g t c =

@@ -4,7 +4,7 @@ use Rattle.table.specs.Kids.{kids_of}
 use Rattle.shrink.specs.Removes.{Renewed}
 use Rattle.shrink.proofs.Lists.{first-left-if, some-left-if}
 use Rattle.shrink.proofs.Renews.{renewed}
-use Rattle.shrink.proofs.Mends.{node-within, child-within, mended-rich, neighbours, is-poor, is-spared, mended-poor}
+use Rattle.shrink.proofs.Mends.{node-within, child-within, mended-rich, joinable, mended-poor}
 use Rattle.shrink.proofs.remove.mend.Goals as goal
 
 pub read-child-requires : goal.read-child-requires
@@ -27,7 +27,7 @@ join-one-requires g c =
     let is = subst (λ q. slice_get c.args.nodes.now q ≡ Some c.read-child.result) c.at.ensures c.read-child.ensures in
     let poor : length (kids_of c.read-child.result.children) < 2 = omega (arith, c.len.ensures, c.if-len-ge2.false) in
     let j = c.saturating_sub-j.ensures in
-    record { pair = neighbours s is poor j c.at-2.ensures c.at-3.ensures; poor = is-poor s is poor j c.at-2.ensures c.at-3.ensures; spared = is-spared s is poor j c.at-2.ensures c.at-3.ensures }
+    joinable s is poor j c.at-2.ensures c.at-3.ensures
 
 pub rewrite-requires-2 : goal.rewrite-requires-2
 rewrite-requires-2 g c =

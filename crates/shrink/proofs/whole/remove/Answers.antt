@@ -1,4 +1,4 @@
-use Rattle.shrink.proofs.Wholes.{root-sound, root-within, root-apart, root-room, Left, leaf-left, ready, lowerable, fork-left, stands-again, ruled-again}
+use Rattle.shrink.proofs.Wholes.{root-sound, root-givable, Left, leaf-left, ready, lowerable, fork-left, stands-again, ruled-again}
 use Rattle.shrink.proofs.whole.remove.Goals as goal
 use Rattle.shrink.proofs.whole.remove.Goals.{then-old-eq0, else-old-eq0}
 
@@ -6,13 +6,7 @@ pub take_out-requires : goal.take_out-requires
 take_out-requires g c = root-sound c.requires.standing c.requires.some c.args.key
 
 pub give-requires : goal.give-requires
-give-requires g c =
-    let st = c.requires.standing in
-    record {
-      within = root-within st c.requires.some c.args.key c.take_out.auto.nodes c.take_out.ensures;
-      apart = root-apart st c.requires.some c.args.key c.take_out.auto.nodes c.take_out.ensures;
-      room = root-room st c.requires.some c.args.key c.take_out.auto.nodes c.take_out.ensures;
-    }
+give-requires g c = root-givable c.requires.standing c.requires.some c.args.key c.take_out.auto.nodes c.take_out.ensures
 
 pub remove_at-requires : goal.remove_at-requires
 remove_at-requires g c = ready c.requires.standing c.requires.some c.args.key c.take_out.auto.nodes c.take_out.ensures c.if-old-eq0.false
