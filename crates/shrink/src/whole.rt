@@ -29,13 +29,11 @@ fn lower<K: Kind>(
     if n.children.len() >= 2 {
         return tree;
     }
-    let child = Subtree {
-        root: n.children.at(0),
-        height: tree.height - 1,
-    };
-    seat_kept::<K>(nodes, n.children, child.height, n);
+    let root = n.children.at(0);
+    let height = tree.height - 1;
+    seat_kept::<K>(nodes, n.children, height, n);
     free.give(nodes, tree.root);
-    child
+    Subtree { root, height }
 }
 
 // Removes the point of a key: it is not kept any more, and its leaf is gone.
