@@ -6,15 +6,15 @@ use Rattle.std.proofs.lemmas.List.{take-append-drop, drop_more, take_more}
 pub put_back : (ps : List ℕ) (i : ℕ) → i < length ps → take i ps ++ (get_or ps i 0 ∷ drop (i + 1) ps) ≡ ps
 put_back ps i lt = ap (λ qs. take i ps ++ qs) (sym (drop_more ps i 0 lt)) ∙ take-append-drop i ps
 
-put-two : (ps : List ℕ) (j : ℕ) (one : Bool) → suc j < length ps
-    → take j ps ++ (cond one (get_or ps j 0 ∷ []) (get_or ps j 0 ∷ get_or ps (j + 1) 0 ∷ []) ++ drop (j + 1 + 1) ps) ≡ cond one (take (j + 1) ps ++ drop (j + 1 + 1) ps) ps
-put-two ps j true lt = sym (append_assoc (take j ps) (get_or ps j 0 ∷ []) (drop (j + 1 + 1) ps)) ∙ ap (λ qs. qs ++ drop (j + 1 + 1) ps) (sym (take_more ps j 0 (omega arith)))
-put-two ps j false lt = ap (λ qs. take j ps ++ (get_or ps j 0 ∷ qs)) (sym (drop_more ps (j + 1) 0 (omega arith))) ∙ put_back ps j (omega arith)
-
 -- two places in a row, both put back or only the first
 pub put_two : (ps : List ℕ) (j : ℕ) (one : Bool) → suc j < length ps
     → take j ps ++ (cond one (get_or ps j 0 ∷ []) (get_or ps j 0 ∷ get_or ps (j + 1) 0 ∷ []) ++ drop (j + 2) ps) ≡ cond one (take (j + 1) ps ++ drop (j + 1 + 1) ps) ps
-put_two ps j one lt = let two : j + 2 ≡ j + 1 + 1 = omega arith in ap (λ k. take j ps ++ (cond one (get_or ps j 0 ∷ []) (get_or ps j 0 ∷ get_or ps (j + 1) 0 ∷ []) ++ drop k ps)) two ∙ put-two ps j one lt
+put_two ps j one lt = let two : j + 2 ≡ j + 1 + 1 = omega arith in ap (λ k. take j ps ++ (cond one (get_or ps j 0 ∷ []) (get_or ps j 0 ∷ get_or ps (j + 1) 0 ∷ []) ++ drop k ps)) two ∙ go ps j one lt
+  where
+    go : (ps : List ℕ) (j : ℕ) (one : Bool) → suc j < length ps
+        → take j ps ++ (cond one (get_or ps j 0 ∷ []) (get_or ps j 0 ∷ get_or ps (j + 1) 0 ∷ []) ++ drop (j + 1 + 1) ps) ≡ cond one (take (j + 1) ps ++ drop (j + 1 + 1) ps) ps
+    go ps j true lt = sym (append_assoc (take j ps) (get_or ps j 0 ∷ []) (drop (j + 1 + 1) ps)) ∙ ap (λ qs. qs ++ drop (j + 1 + 1) ps) (sym (take_more ps j 0 (omega arith)))
+    go ps j false lt = ap (λ qs. take j ps ++ (get_or ps j 0 ∷ qs)) (sym (drop_more ps (j + 1) 0 (omega arith))) ∙ put_back ps j (omega arith)
 
 -- the first of the places that are left
 pub first_left : (P : ℕ → Type 0) (i : ℕ) (ps : List ℕ) → 2 ≤ length ps → ((j : ℕ) → j < length ps → P (get_or ps j 0)) → P (get_or (take i ps ++ drop (i + 1) ps) 0 0)

@@ -53,19 +53,17 @@ fn fuse<K: Kind>(nodes: &mut [Node<K::Coordinate, K::Recorded>], free: &mut Free
     requires few { count (children_of (tree_at K.Kind.meaning nodes.old pair.height pair.left)) + count (children_of (tree_at K.Kind.meaning nodes.old pair.height pair.right)) ≤ 4 }
     ensures { Fused K.Kind.meaning nodes.old nodes.new pair.height pair.left pair.right free.old free.new }
 {
-    let Pair {
-        left,
-        right,
-        height,
-    } = pair;
-    let first = read(nodes, left);
-    let last = read(nodes, right);
-    let root = Subtree { root: left, height };
-    settle::<K>(nodes, root, first.children.append(last.children));
-    let fused = Children::of(&[left]);
-    seat_kept::<K>(nodes, fused, height, first);
-    seat_kept::<K>(nodes, fused, height, last);
-    free.give(nodes, right);
+    let first = read(nodes, pair.left);
+    let last = read(nodes, pair.right);
+    let tree = Subtree {
+        root: pair.left,
+        height: pair.height,
+    };
+    settle::<K>(nodes, tree, first.children.append(last.children));
+    let fused = Children::of(&[pair.left]);
+    seat_kept::<K>(nodes, fused, pair.height, first);
+    seat_kept::<K>(nodes, fused, pair.height, last);
+    free.give(nodes, pair.right);
 }
 
 // The two share their children in another way.
@@ -75,23 +73,20 @@ fn share<K: Kind>(nodes: &mut [Node<K::Coordinate, K::Recorded>], pair: Pair, ne
     requires some { (0 < length (kids_of new.left)) × (0 < length (kids_of new.right)) }
     ensures { Shared K.Kind.meaning nodes.old nodes.new pair.height pair.left pair.right (kids_of new.left) (kids_of new.right) }
 {
-    let Pair {
-        left,
-        right,
+    let first = read(nodes, pair.left);
+    let last = read(nodes, pair.right);
+    let height = pair.height;
+    let left = Subtree {
+        root: pair.left,
         height,
-    } = pair;
-    let first = read(nodes, left);
-    let last = read(nodes, right);
-    settle::<K>(nodes, Subtree { root: left, height }, new.left);
-    settle::<K>(
-        nodes,
-        Subtree {
-            root: right,
-            height,
-        },
-        new.right,
-    );
-    let both = Children::of(&[left, right]);
+    };
+    let right = Subtree {
+        root: pair.right,
+        height,
+    };
+    settle::<K>(nodes, left, new.left);
+    settle::<K>(nodes, right, new.right);
+    let both = Children::of(&[pair.left, pair.right]);
     seat_kept::<K>(nodes, both, height, first);
     seat_kept::<K>(nodes, both, height, last);
 }

@@ -1,5 +1,4 @@
-use Rattle.std.proofs.Common.{◌≡◌, ◌+◌, ◌<◌, length, Some, sym, subst, arith}
-use Rattle.std.specs.List.{slice_get}
+use Rattle.std.proofs.Common.{◌+◌, ◌<◌, length, sym, subst, arith}
 use Rattle.table.specs.Kids.{kids_of}
 use Rattle.shrink.specs.Removes.{Renewed}
 use Rattle.shrink.proofs.Lists.{first-left-if, some-left-if}
@@ -8,7 +7,7 @@ use Rattle.shrink.proofs.Mends.{node-within, child-within, mended-rich, joinable
 use Rattle.shrink.proofs.remove.mend.Goals as goal
 
 pub read-child-requires : goal.read-child-requires
-read-child-requires g c = subst (λ q. q < length c.args.nodes.now) (sym c.at.ensures) (child-within c.requires c.args.i c.requires.index)
+read-child-requires g c = rw c.at.ensures (child-within c.requires c.args.i c.requires.index)
 
 pub rewrite-requires : goal.rewrite-requires
 rewrite-requires g c =
@@ -18,13 +17,13 @@ rewrite-requires g c =
 pub returns-then-len-ge2 : goal.returns-then-len-ge2
 returns-then-len-ge2 g c =
     let s = c.requires in
-    let is = subst (λ q. slice_get c.args.nodes.now q ≡ Some c.read-child.result) c.at.ensures c.read-child.ensures in
+    let is = rw c.at.ensures at c.read-child.ensures in
     mended-rich s is (omega (arith, c.len.ensures, c.if-len-ge2.true)) c.rewrite.auto.nodes (renewed g.K.Kind.meaning (node-within s) (omega (arith, s.two)) c.rewrite.ensures)
 
 pub join-one-requires : goal.join-one-requires
 join-one-requires g c =
     let s = c.requires in
-    let is = subst (λ q. slice_get c.args.nodes.now q ≡ Some c.read-child.result) c.at.ensures c.read-child.ensures in
+    let is = rw c.at.ensures at c.read-child.ensures in
     let poor : length (kids_of c.read-child.result.children) < 2 = omega (arith, c.len.ensures, c.if-len-ge2.false) in
     let j = c.saturating_sub-j.ensures in
     joinable s is poor j c.at-2.ensures c.at-3.ensures
@@ -41,7 +40,7 @@ rewrite-requires-2 g c =
 pub returns : goal.returns
 returns g c =
     let s = c.requires in
-    let is = subst (λ q. slice_get c.args.nodes.now q ≡ Some c.read-child.result) c.at.ensures c.read-child.ensures in
+    let is = rw c.at.ensures at c.read-child.ensures in
     let poor : length (kids_of c.read-child.result.children) < 2 = omega (arith, c.len.ensures, c.if-len-ge2.false) in
     let ps = kids_of c.args.n.children in
     let i = c.saturating_sub-j.result + 1 in
