@@ -5,6 +5,7 @@ ghost use Rattle.plain.specs.Windows.{later, inside, reaches, window, matches, f
 
 use crate::order::key_order;
 use crate::point::{Key, Point};
+use crate::window::Window;
 use kinds::{Kind, SummedKind};
 
 pub fn is_later<K: Kind>(a: K::Coordinate, b: K::Coordinate) -> bool
@@ -13,11 +14,11 @@ pub fn is_later<K: Kind>(a: K::Coordinate, b: K::Coordinate) -> bool
     K::order(a, b).is_gt()
 }
 
-// Whether `at` is not earlier than `l` and not later than `u`.
-pub fn is_inside<K: Kind>(l: K::Coordinate, u: K::Coordinate, at: K::Coordinate) -> bool
-    ensures { result ≡ inside K.Kind.meaning l u at }
+// Whether `at` is not earlier than the lower bound and not later than the upper one.
+pub fn is_inside<K: Kind>(bounds: Window<K::Coordinate>, at: K::Coordinate) -> bool
+    ensures { result ≡ inside K.Kind.meaning bounds.lower bounds.upper at }
 {
-    !is_later::<K>(l, at) & !is_later::<K>(at, u)
+    !is_later::<K>(bounds.lower, at) & !is_later::<K>(at, bounds.upper)
 }
 
 // Whether `weight` is not weaker than `threshold`.
@@ -29,14 +30,13 @@ pub fn is_reaching<K: Kind>(weight: K::Weight, threshold: K::Weight) -> bool
 
 // Whether `p` is in the window and not weaker than the threshold.
 pub fn is_match<K: Kind>(
-    l: K::Coordinate,
-    u: K::Coordinate,
+    bounds: Window<K::Coordinate>,
     threshold: K::Weight,
     p: Point<K::Coordinate, K::Weight>,
 ) -> bool
-    ensures { result ≡ (inside K.Kind.meaning l u p.key.at && reaches K.Kind.meaning p.weight threshold) }
+    ensures { result ≡ (inside K.Kind.meaning bounds.lower bounds.upper p.key.at && reaches K.Kind.meaning p.weight threshold) }
 {
-    is_inside::<K>(l, u, p.key.at) & is_reaching::<K>(p.weight, threshold)
+    is_inside::<K>(bounds, p.key.at) & is_reaching::<K>(p.weight, threshold)
 }
 
 // The weight of a key, if it stands.
@@ -55,12 +55,11 @@ pub fn find<K: Kind>(
 // The sum of the points in a window, in their order, and how many they are.
 pub fn sum_window<K: SummedKind>(
     points: &[Point<K::Coordinate, K::Weight>],
-    l: K::Coordinate,
-    u: K::Coordinate,
+    bounds: Window<K::Coordinate>,
 ) -> (f32, usize)
-    ensures { result ≡ (total K.number (window K.Kind.meaning l u points.now), length (window K.Kind.meaning l u points.now)) }
+    ensures { result ≡ (total K.number (window K.Kind.meaning bounds.lower bounds.upper points.now), length (window K.Kind.meaning bounds.lower bounds.upper points.now)) }
 {
-    let inside = |p: &&Point<K::Coordinate, K::Weight>| is_inside::<K>(l, u, p.key.at);
+    let inside = |p: &&Point<K::Coordinate, K::Weight>| is_inside::<K>(bounds, p.key.at);
     let sum = points
         .iter()
         .filter(inside)
@@ -71,27 +70,25 @@ pub fn sum_window<K: SummedKind>(
 // How many points match a window with a threshold.
 pub fn count_matches<K: Kind>(
     points: &[Point<K::Coordinate, K::Weight>],
-    l: K::Coordinate,
-    u: K::Coordinate,
+    bounds: Window<K::Coordinate>,
     threshold: K::Weight,
 ) -> usize
-    ensures { result ≡ length (matches K.Kind.meaning l u threshold points.now) }
+    ensures { result ≡ length (matches K.Kind.meaning bounds.lower bounds.upper threshold points.now) }
 {
     points
         .iter()
-        .filter(|p| is_match::<K>(l, u, threshold, **p))
+        .filter(|p| is_match::<K>(bounds, threshold, **p))
         .count()
 }
 
 // Fills the list with the first points in a window, as many as it has places, and says how many.
 pub fn list_first<K: Kind>(
     points: &[Point<K::Coordinate, K::Weight>],
-    l: K::Coordinate,
-    u: K::Coordinate,
+    bounds: Window<K::Coordinate>,
     list: &mut [Point<K::Coordinate, K::Weight>],
 ) -> usize
-    ensures count { result ≡ length (firsts K.Kind.meaning (length list.old) l u points.now) }
-    ensures listed { list.new ≡ firsts K.Kind.meaning (length list.old) l u points.now ++ drop result list.old }
+    ensures count { result ≡ length (firsts K.Kind.meaning (length list.old) bounds.lower bounds.upper points.now) }
+    ensures listed { list.new ≡ firsts K.Kind.meaning (length list.old) bounds.lower bounds.upper points.now ++ drop result list.old }
 {
     let mut count = 0;
     // Tried: a `for` over the points filtered and taken gets no proof in a function with a kind.
@@ -99,7 +96,7 @@ pub fn list_first<K: Kind>(
         if count == list.len() {
             return count;
         }
-        if is_inside::<K>(l, u, p.key.at) {
+        if is_inside::<K>(bounds, p.key.at) {
             list[count] = *p;
             count += 1;
         }

@@ -7,7 +7,7 @@ ghost use Rattle.walk.specs.Entries.{open_entries};
 ghost use Rattle.walk.specs.Piles.{pile_of};
 
 use kinds::Kind;
-use plain::is_later;
+use plain::{Window, is_later};
 use table::children::Children;
 use table::node::{Node, read};
 use table::subtree::Subtree;
@@ -46,30 +46,30 @@ impl<'a> Pile<'a> {
     }
 
     // Puts the children that are open to a window on top, from the right. A child is open if its
-    // coordinate is not later than `u`, and it is the last, or that of its right sibling is not
-    // earlier than `l`.
+    // coordinate is not later than the upper bound, and it is the last, or that of its right
+    // sibling is not earlier than the lower one.
     pub fn push_open<K: Kind>(
         &mut self,
         nodes: &[Node<K::Coordinate, K::Recorded>],
         children: Children,
         height: u8,
-        l: K::Coordinate,
-        u: K::Coordinate,
+        bounds: Window<K::Coordinate>,
     )
         requires within { AllByRecursion (λ q. q < length nodes.now) (kids_of children) }
-        requires room { self.old.depth + length (open_entries K.Kind.meaning nodes.now height l u (kids_of children)) ≤ length self.old.entries.now }
-        ensures pile { pile_of self.new ≡ open_entries K.Kind.meaning nodes.now height l u (kids_of children) ++ pile_of self.old }
-        ensures depth { self.new.depth ≡ self.old.depth + length (open_entries K.Kind.meaning nodes.now height l u (kids_of children)) }
+        requires room { self.old.depth + length (open_entries K.Kind.meaning nodes.now height bounds.lower bounds.upper (kids_of children)) ≤ length self.old.entries.now }
+        ensures pile { pile_of self.new ≡ open_entries K.Kind.meaning nodes.now height bounds.lower bounds.upper (kids_of children) ++ pile_of self.old }
+        ensures depth { self.new.depth ≡ self.old.depth + length (open_entries K.Kind.meaning nodes.now height bounds.lower bounds.upper (kids_of children)) }
         ensures places { length self.new.entries.now ≡ length self.old.entries.now }
     {
+        let Window { lower, upper } = bounds;
         let mut reaching = true;
         for i in (0..children.len()).rev() {
             let root = children.at(i);
             let at = read(nodes, root).own.at;
-            if is_by::<K>(at, u) & reaching {
+            if is_by::<K>(at, upper) & reaching {
                 self.push(Subtree { root, height });
             }
-            reaching = is_by::<K>(l, at);
+            reaching = is_by::<K>(lower, at);
         }
     }
 }

@@ -7,7 +7,7 @@ ghost use Rattle.walk.specs.Lists.{filled, noted};
 
 use crate::entries::Pile;
 use kinds::Kind;
-use plain::{Point, is_inside, is_reaching};
+use plain::{Point, Window, is_inside, is_reaching};
 use table::node::{Node, Stored, read};
 use table::subtree::Subtree;
 use tree::search::point_of;
@@ -34,16 +34,15 @@ fn note<C: Copy, W: Copy>(list: &mut [Point<C, W>], matches: usize, p: Point<C, 
 // A kept point is listed if its coordinate is in the window; how many matches there are then.
 fn visit<K: Kind>(
     x: Stored<K::Coordinate, K::Recorded>,
-    l: K::Coordinate,
-    u: K::Coordinate,
+    bounds: Window<K::Coordinate>,
     list: &mut [Point<K::Coordinate, K::Weight>],
     matches: usize,
 ) -> usize
     requires { matches + 1 < 2 ^ 64 }
-    ensures count { result ≡ (if inside K.Kind.meaning l u x.at then matches + 1 else matches) }
-    ensures list { list.new ≡ (if inside K.Kind.meaning l u x.at then noted list.old matches (point_in K.Kind.meaning x) else list.old) }
+    ensures count { result ≡ (if inside K.Kind.meaning bounds.lower bounds.upper x.at then matches + 1 else matches) }
+    ensures list { list.new ≡ (if inside K.Kind.meaning bounds.lower bounds.upper x.at then noted list.old matches (point_in K.Kind.meaning x) else list.old) }
 {
-    if !is_inside::<K>(l, u, x.at) {
+    if !is_inside::<K>(bounds, x.at) {
         return matches;
     }
     note(list, matches, point_of::<K>(x));
@@ -55,16 +54,15 @@ fn visit<K: Kind>(
 pub fn range_walk<K: Kind>(
     nodes: &[Node<K::Coordinate, K::Recorded>],
     tree: Subtree,
-    l: K::Coordinate,
-    u: K::Coordinate,
+    bounds: Window<K::Coordinate>,
     threshold: K::Weight,
     list: &mut [Point<K::Coordinate, K::Weight>],
 ) -> (usize, usize)
     requires sound { Sound (length nodes.now) tree.height (tree_of K.Kind.meaning nodes.now tree) }
     requires low { tree.height ≤ 14 }
-    requires few { length (visits K.Kind.meaning l u threshold (tree_of K.Kind.meaning nodes.now tree)) < 2 ^ 32 }
-    ensures counts { result ≡ (length (ranged K.Kind.meaning l u threshold (tree_of K.Kind.meaning nodes.now tree)), length (visits K.Kind.meaning l u threshold (tree_of K.Kind.meaning nodes.now tree))) }
-    ensures list { list.new ≡ filled list.old (ranged K.Kind.meaning l u threshold (tree_of K.Kind.meaning nodes.now tree)) }
+    requires few { length (visits K.Kind.meaning bounds.lower bounds.upper threshold (tree_of K.Kind.meaning nodes.now tree)) < 2 ^ 32 }
+    ensures counts { result ≡ (length (ranged K.Kind.meaning bounds.lower bounds.upper threshold (tree_of K.Kind.meaning nodes.now tree)), length (visits K.Kind.meaning bounds.lower bounds.upper threshold (tree_of K.Kind.meaning nodes.now tree))) }
+    ensures list { list.new ≡ filled list.old (ranged K.Kind.meaning bounds.lower bounds.upper threshold (tree_of K.Kind.meaning nodes.now tree)) }
 {
     let mut entries = [tree; 43];
     let mut stack = Pile {
@@ -77,9 +75,9 @@ pub fn range_walk<K: Kind>(
         visited += 1;
         let node = read(nodes, next.root);
         if let Some(x) = leading::<K>(node.kept, threshold) {
-            matches = visit::<K>(x, l, u, list, matches);
+            matches = visit::<K>(x, bounds, list, matches);
             if next.height > 0 {
-                stack.push_open::<K>(nodes, node.children, next.height - 1, l, u);
+                stack.push_open::<K>(nodes, node.children, next.height - 1, bounds);
             }
         }
     }

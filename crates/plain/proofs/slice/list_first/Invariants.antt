@@ -5,5 +5,5 @@ use Rattle.plain.proofs.slice.list_first.Given as goal
 -- the list begins with the matches so far, and goes on as it was
 abbrev pub invariant-loop-p : goal.invariant-loop-p
 invariant-loop-p g l =
-    let seen = window g.K.Kind.meaning l.l l.u (take l.p-index l.points) in
+    let seen = window g.K.Kind.meaning l.bounds.lower l.bounds.upper (take l.p-index l.points) in
     (l.list ≡ seen ++ drop l.count l.initial.list) × (l.count ≡ length seen) × (l.count ≤ length l.initial.list)

@@ -27,13 +27,13 @@ returns g c =
     let m = g.K.Kind.meaning in
     let n = g.K.SummedKind.number in
     let ps = c.args.points.now in
-    let all = window m c.args.l c.args.u ps in
+    let all = window m c.args.bounds.lower c.args.bounds.upper ps in
     let sum : c.fold-sum.result ≡ total n all =
     fold_from_yields_List _ (plus n) _ _ c.fold-sum.ensures.ran
-    (YieldsList-from_filter _ (within m c.args.l c.args.u) (YieldsList-from_slice ps (search rules)) c.filter.ensures.closure (λ y b q k. search (rules, tests)))
+    (YieldsList-from_filter _ (within m c.args.bounds.lower c.args.bounds.upper) (YieldsList-from_slice ps (search rules)) c.filter.ensures.closure (λ y b q k. search (rules, tests)))
     (λ a x b q k. search (rules, tests))
     ∙ folded n _ all in
     let count : c.count.result ≡ length all =
     count_from_yields_List _ _ c.count.ensures.ran
-    (YieldsList-from_filter _ (within m c.args.l c.args.u) (YieldsList-from_slice ps (search rules)) c.filter-2.ensures.closure (λ y b q k. search (rules, tests))) in
+    (YieldsList-from_filter _ (within m c.args.bounds.lower c.args.bounds.upper) (YieldsList-from_slice ps (search rules)) c.filter-2.ensures.closure (λ y b q k. search (rules, tests))) in
     cc

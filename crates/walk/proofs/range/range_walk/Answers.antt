@@ -34,15 +34,15 @@ push_open-requires g c =
     let up : next.height ≡ suc (next.height - 1) = omega (arith, c.if-next-gt0.true) in
     record {
       within = kids-within m ns (next.height - 1) next.root node c.read-node.ensures (subst (λ k. Sound (length ns) k (tree_at m ns k next.root)) up sound.0);
-      room = omega (arith, open-few m ns (next.height - 1) c.args.l c.args.u (kids_of node.children), few node.children, rooms.0, c.if-next-gt0.true, pile-long c.pop.new.self.entries.now c.pop.new.self.depth (omega (arith, c.in-Some.ensures.depth, c.in-Some.ensures.places, c.loop-next.invariant.0, c.loop-next.invariant.1)), c.in-Some.ensures.places, c.loop-next.invariant.0);
+      room = omega (arith, open-few m ns (next.height - 1) c.args.bounds.lower c.args.bounds.upper (kids_of node.children), few node.children, rooms.0, c.if-next-gt0.true, pile-long c.pop.new.self.entries.now c.pop.new.self.depth (omega (arith, c.in-Some.ensures.depth, c.in-Some.ensures.places, c.loop-next.invariant.0, c.loop-next.invariant.1)), c.in-Some.ensures.places, c.loop-next.invariant.0);
     }
 
 pub loop-next-smaller-then-next-gt0 : goal.loop-next-smaller-then-next-gt0
 loop-next-smaller-then-next-gt0 g c =
     let m = g.K.Kind.meaning in
     let ns = c.args.nodes.now in
-    let l = c.args.l in
-    let u = c.args.u in
+    let l = c.args.bounds.lower in
+    let u = c.args.bounds.upper in
     let w = c.args.threshold in
     let next = c.in-Some.next in
     let left = pile_of c.pop.new.self in
@@ -57,8 +57,8 @@ pub loop-next-preserved-then-next-gt0 : goal.loop-next-preserved-then-next-gt0
 loop-next-preserved-then-next-gt0 g c =
     let m = g.K.Kind.meaning in
     let ns = c.args.nodes.now in
-    let l = c.args.l in
-    let u = c.args.u in
+    let l = c.args.bounds.lower in
+    let u = c.args.bounds.upper in
     let w = c.args.threshold in
     let next = c.in-Some.next in
     let left = pile_of c.pop.new.self in
@@ -86,8 +86,8 @@ pub loop-next-smaller-else-next-gt0 : goal.loop-next-smaller-else-next-gt0
 loop-next-smaller-else-next-gt0 g c =
     let m = g.K.Kind.meaning in
     let ns = c.args.nodes.now in
-    let l = c.args.l in
-    let u = c.args.u in
+    let l = c.args.bounds.lower in
+    let u = c.args.bounds.upper in
     let w = c.args.threshold in
     let next = c.in-Some.next in
     let left = pile_of c.pop.new.self in
@@ -101,8 +101,8 @@ pub loop-next-preserved-else-next-gt0 : goal.loop-next-preserved-else-next-gt0
 loop-next-preserved-else-next-gt0 g c =
     let m = g.K.Kind.meaning in
     let ns = c.args.nodes.now in
-    let l = c.args.l in
-    let u = c.args.u in
+    let l = c.args.bounds.lower in
+    let u = c.args.bounds.upper in
     let w = c.args.threshold in
     let next = c.in-Some.next in
     let left = pile_of c.pop.new.self in
@@ -126,8 +126,8 @@ pub loop-next-smaller : goal.loop-next-smaller
 loop-next-smaller g c =
     let m = g.K.Kind.meaning in
     let ns = c.args.nodes.now in
-    let l = c.args.l in
-    let u = c.args.u in
+    let l = c.args.bounds.lower in
+    let u = c.args.bounds.upper in
     let w = c.args.threshold in
     let next = c.in-Some.next in
     let left = pile_of c.pop.new.self in
@@ -141,8 +141,8 @@ pub loop-next-preserved : goal.loop-next-preserved
 loop-next-preserved g c =
     let m = g.K.Kind.meaning in
     let ns = c.args.nodes.now in
-    let l = c.args.l in
-    let u = c.args.u in
+    let l = c.args.bounds.lower in
+    let u = c.args.bounds.upper in
     let w = c.args.threshold in
     let next = c.in-Some.next in
     let left = pile_of c.pop.new.self in
@@ -165,8 +165,8 @@ pub returns : goal.returns
 returns g c =
     let m = g.K.Kind.meaning in
     let ns = c.args.nodes.now in
-    let l = c.args.l in
-    let u = c.args.u in
+    let l = c.args.bounds.lower in
+    let u = c.args.bounds.upper in
     let w = c.args.threshold in
     let leads = leads_on m w in
     let empty = c.in_default.ensures.pile in

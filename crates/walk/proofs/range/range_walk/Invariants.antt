@@ -12,15 +12,15 @@ abbrev pub invariant-loop-next : goal.invariant-loop-next
 invariant-loop-next g l =
     let m = g.K.Kind.meaning in
     let left = pile_of l.stack in
-    let coming = to_come m l.nodes (leads_on m l.threshold) l.l l.u left in
-    let whole = to_come m l.nodes (leads_on m l.threshold) l.l l.u (pile_of l.initial.stack) in
+    let coming = to_come m l.nodes (leads_on m l.threshold) l.bounds.lower l.bounds.upper left in
+    let whole = to_come m l.nodes (leads_on m l.threshold) l.bounds.lower l.bounds.upper (pile_of l.initial.stack) in
     (length l.stack.entries.now ≡ 43)
     × (l.stack.depth ≤ 43)
     × AllSound m l.nodes left
     × Rooms left
     × (l.visited + length coming ≡ length whole)
     × (l.matches ≤ l.visited)
-    × Listing (matches m l.l l.u l.threshold (flat_map kept_at whole)) (matches m l.l l.u l.threshold (flat_map kept_at coming)) l.initial.list l.list l.matches
+    × Listing (matches m l.bounds.lower l.bounds.upper l.threshold (flat_map kept_at whole)) (matches m l.bounds.lower l.bounds.upper l.threshold (flat_map kept_at coming)) l.initial.list l.list l.matches
 
 abbrev pub decreases-loop-next : goal.decreases-loop-next
-decreases-loop-next g l = length (to_come g.K.Kind.meaning l.nodes (leads_on g.K.Kind.meaning l.threshold) l.l l.u (pile_of l.stack))
+decreases-loop-next g l = length (to_come g.K.Kind.meaning l.nodes (leads_on g.K.Kind.meaning l.threshold) l.bounds.lower l.bounds.upper (pile_of l.stack))

@@ -10,7 +10,7 @@ use Rattle.walk.proofs.entries.Pile.push_open.Goals.{then-is_by-reaching, else-i
 
 pub loop-i-init : goal.loop-i-init
 loop-i-init g c =
-    let s = open-start g.K.Kind.meaning c.args.nodes.now c.args.height c.args.l c.args.u (kids_of c.args.children) c.len-i.result (omega (arith, c.len-i.ensures)) in (
+    let s = open-start g.K.Kind.meaning c.args.nodes.now c.args.height c.args.bounds.lower c.args.bounds.upper (kids_of c.args.children) c.len-i.result (omega (arith, c.len-i.ensures)) in (
       omega (arith, c.len-i.ensures),
       ap (λ es. es ++ pile_of c.args.self.now) (sym s.0),
       omega (arith, ap length s.0),
@@ -28,18 +28,18 @@ push-requires g c =
     let next : c.loop-i.i ≡ (c.loop-i.i - 1) + 1 = omega (arith, c.loop-i-test.true) in
     let lt : (c.loop-i.i - 1) < length (kids_of c.args.children) = omega (arith, c.loop-i.invariant.0, c.loop-i-test.true) in
     let is = subst (λ q. slice_get c.args.nodes.now q ≡ Some c.read-at.result) c.at-root.ensures c.read-at.ensures in
-    let e = open_more g.K.Kind.meaning c.args.nodes.now c.args.height c.args.l c.args.u (kids_of c.args.children) c.loop-i.i (c.loop-i.i - 1) next lt c.read-at.result is c.loop-i.reaching c.loop-i.invariant.4 (ap (λ b. b && c.loop-i.reaching) (sym c.is_by.ensures) ∙ c.if-is_by-reaching.true) in
-    omega (arith, ap length e, joined-few g.K.Kind.meaning c.args.nodes.now c.args.height c.args.l c.args.u (kids_of c.args.children) (c.loop-i.i - 1), c.loop-i.invariant.2, c.loop-i.invariant.3, c.requires.room)
+    let e = open_more g.K.Kind.meaning c.args.nodes.now c.args.height c.args.bounds.lower c.args.bounds.upper (kids_of c.args.children) c.loop-i.i (c.loop-i.i - 1) next lt c.read-at.result is c.loop-i.reaching c.loop-i.invariant.4 (ap (λ b. b && c.loop-i.reaching) (sym c.is_by.ensures) ∙ c.if-is_by-reaching.true) in
+    omega (arith, ap length e, joined-few g.K.Kind.meaning c.args.nodes.now c.args.height c.args.bounds.lower c.args.bounds.upper (kids_of c.args.children) (c.loop-i.i - 1), c.loop-i.invariant.2, c.loop-i.invariant.3, c.requires.room)
 
 pub loop-i-preserved : goal.loop-i-preserved
 loop-i-preserved g c =
     let next : c.loop-i.i ≡ (c.loop-i.i - 1) + 1 = omega (arith, c.loop-i-test.true) in
     let lt : (c.loop-i.i - 1) < length (kids_of c.args.children) = omega (arith, c.loop-i.invariant.0, c.loop-i-test.true) in
     let is = subst (λ q. slice_get c.args.nodes.now q ≡ Some c.read-at.result) c.at-root.ensures c.read-at.ensures in
-    let right : c.is_by-reaching.result ≡ reaches_at g.K.Kind.meaning c.args.nodes.now c.args.l (drop (c.loop-i.i - 1) (kids_of c.args.children)) = c.is_by-reaching.ensures ∙ reaches-next g.K.Kind.meaning c.args.nodes.now c.args.height c.args.l c.args.u (kids_of c.args.children) c.loop-i.i (c.loop-i.i - 1) next lt c.read-at.result is c.loop-i.reaching c.loop-i.invariant.4 in
+    let right : c.is_by-reaching.result ≡ reaches_at g.K.Kind.meaning c.args.nodes.now c.args.bounds.lower (drop (c.loop-i.i - 1) (kids_of c.args.children)) = c.is_by-reaching.ensures ∙ reaches-next g.K.Kind.meaning c.args.nodes.now c.args.height c.args.bounds.lower c.args.bounds.upper (kids_of c.args.children) c.loop-i.i (c.loop-i.i - 1) next lt c.read-at.result is c.loop-i.reaching c.loop-i.invariant.4 in
     elim c.if-is_by-reaching.branch [
       | then-is_by-reaching w ↦
-          let e = open_more g.K.Kind.meaning c.args.nodes.now c.args.height c.args.l c.args.u (kids_of c.args.children) c.loop-i.i (c.loop-i.i - 1) next lt c.read-at.result is c.loop-i.reaching c.loop-i.invariant.4 (ap (λ b. b && c.loop-i.reaching) (sym c.is_by.ensures) ∙ w.if-is_by-reaching.true) in (
+          let e = open_more g.K.Kind.meaning c.args.nodes.now c.args.height c.args.bounds.lower c.args.bounds.upper (kids_of c.args.children) c.loop-i.i (c.loop-i.i - 1) next lt c.read-at.result is c.loop-i.reaching c.loop-i.invariant.4 (ap (λ b. b && c.loop-i.reaching) (sym c.is_by.ensures) ∙ w.if-is_by-reaching.true) in (
             omega arith,
             ap pile_of w.self-is ∙ w.push.ensures.pile
                 ∙ ap (λ p. entry p c.args.height ∷ pile_of c.loop-i.self) c.at-root.ensures
@@ -50,7 +50,7 @@ loop-i-preserved g c =
             right,
           )
       | else-is_by-reaching w ↦
-          let e = open-same g.K.Kind.meaning c.args.nodes.now c.args.height c.args.l c.args.u (kids_of c.args.children) c.loop-i.i (c.loop-i.i - 1) next lt c.read-at.result is c.loop-i.reaching c.loop-i.invariant.4 (ap (λ b. b && c.loop-i.reaching) (sym c.is_by.ensures) ∙ w.if-is_by-reaching.false) in (
+          let e = open-same g.K.Kind.meaning c.args.nodes.now c.args.height c.args.bounds.lower c.args.bounds.upper (kids_of c.args.children) c.loop-i.i (c.loop-i.i - 1) next lt c.read-at.result is c.loop-i.reaching c.loop-i.invariant.4 (ap (λ b. b && c.loop-i.reaching) (sym c.is_by.ensures) ∙ w.if-is_by-reaching.false) in (
             omega arith,
             ap pile_of w.self-is ∙ c.loop-i.invariant.1 ∙ ap (λ es. es ++ pile_of c.args.self.now) (sym e),
             omega (arith, ap (λ p. p.depth) w.self-is, ap length e, c.loop-i.invariant.2),
@@ -66,5 +66,5 @@ drop-zero (x ∷ xs) = refl
 pub returns : goal.returns
 returns g c =
     let zero : c.loop-i.i ≡ 0 = omega (arith, c.loop-i-test.false) in
-    let all : open_entries g.K.Kind.meaning c.args.nodes.now c.args.height c.args.l c.args.u (drop c.loop-i.i (kids_of c.args.children)) ≡ open_entries g.K.Kind.meaning c.args.nodes.now c.args.height c.args.l c.args.u (kids_of c.args.children) = ap (λ k. open_entries g.K.Kind.meaning c.args.nodes.now c.args.height c.args.l c.args.u (drop k (kids_of c.args.children))) zero ∙ ap (open_entries g.K.Kind.meaning c.args.nodes.now c.args.height c.args.l c.args.u) (drop-zero (kids_of c.args.children)) in
+    let all : open_entries g.K.Kind.meaning c.args.nodes.now c.args.height c.args.bounds.lower c.args.bounds.upper (drop c.loop-i.i (kids_of c.args.children)) ≡ open_entries g.K.Kind.meaning c.args.nodes.now c.args.height c.args.bounds.lower c.args.bounds.upper (kids_of c.args.children) = ap (λ k. open_entries g.K.Kind.meaning c.args.nodes.now c.args.height c.args.bounds.lower c.args.bounds.upper (drop k (kids_of c.args.children))) zero ∙ ap (open_entries g.K.Kind.meaning c.args.nodes.now c.args.height c.args.bounds.lower c.args.bounds.upper) (drop-zero (kids_of c.args.children)) in
     record { pile = c.loop-i.invariant.1 ∙ ap (λ es. es ++ pile_of c.args.self.now) all; depth = c.loop-i.invariant.2 ∙ ap (λ es. c.args.self.now.depth + length es) all; places = c.loop-i.invariant.3 }

@@ -9,9 +9,9 @@ abbrev pub invariant-loop-i : goal.invariant-loop-i
 invariant-loop-i g l =
     let m = g.K.Kind.meaning in
     let rest = drop l.i (kids_of l.children) in
-    let joined = open_entries m l.nodes l.height l.l l.u rest in
+    let joined = open_entries m l.nodes l.height l.lower l.upper rest in
     (l.i ≤ length (kids_of l.children))
     × (pile_of l.self ≡ joined ++ pile_of l.initial.self)
     × (l.self.depth ≡ l.initial.self.depth + length joined)
     × (length l.self.entries.now ≡ length l.initial.self.entries.now)
-    × (l.reaching ≡ reaches_at m l.nodes l.l rest)
+    × (l.reaching ≡ reaches_at m l.nodes l.lower rest)
