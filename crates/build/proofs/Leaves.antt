@@ -1,5 +1,5 @@
 -- Leaves laid one by one at the first places.
-use Rattle.std.proofs.Common.{◌≡◌, ℕ, suc, ◌+◌, ◌<◌, List, [], ◌∷◌, ◌++◌, length, set, Some, sym, refl, ap, ◌∙◌, arith}
+use Rattle.std.proofs.Common.{◌≡◌, ℕ, suc, ◌+◌, List, [], ◌∷◌, ◌++◌, length, Some, sym, refl, ap, ◌∙◌, arith}
 use Rattle.std.specs.List.{slice_get}
 use Rattle.kinds.specs.Meaning.{Meaning}
 use Rattle.plain.specs.declared.point.Point.{Point}
@@ -7,11 +7,9 @@ use Rattle.trees.specs.Tree.{leaf, none, more, ◌⊕◌, grow, count, points_al
 use Rattle.built.specs.Build.{leaves_from}
 use Rattle.built.proofs.Leaves.{leaves-points, leaves-count, leaves-uses}
 use Rattle.table.specs.declared.node.Node.{Node}
-use Rattle.table.specs.declared.node.Stored.{Stored}
 use Rattle.table.specs.Spares.{row}
-use Rattle.table.specs.Reading.{point_in, point_in_any, kept_in, tree_at, inside}
+use Rattle.table.specs.Reading.{tree_at, inside}
 use Rattle.table.proofs.Frames.{grow-append, count-grow, same-trees, not_there}
-use Rattle.table.proofs.Steps.{leaf-became}
 use Rattle.build.specs.Leaves.{leaves_at, laid_at, Leaves}
 use Rattle.build.proofs.Rows.{length-row, row_more, not-inside, occurs-inside, same_count}
 
@@ -39,14 +37,6 @@ module _ {C W R : Type 0} (m : Meaning C W R) where
     laid-uses q =
         let e : 0 + n ≡ n = omega arith in
         omega (arith, ap (λ ts. uses_all ts q) are, leaves-uses 0 xs q, same_count q (length xs) 0, occurs-inside q (length xs) 0, not-inside 0 q (omega arith), ap (λ j. inside (0 + j) q) laid-length, ap (λ j. inside j q) e)
-
-  -- a leaf is written
-  pub leaf-laid : (a b : List (Node C R)) (at : ℕ) (n : Node C R) (x : Stored C R) → at < length a → b ≡ set a at n → n.own ≡ x → n.kept ≡ Some x → tree_at m b 0 at ≡ leaf at (point_in m x) (Some (point_in m x))
-  leaf-laid a b at n x within is own kept =
-      ap (λ ns. tree_at m ns 0 at) is
-      ∙ (leaf-became m a at n within).tree
-      ∙ ap (λ s. leaf at (point_in m s) (kept_in m n)) own
-      ∙ ap (λ o. leaf at (point_in m x) (point_in_any m o)) kept
 
   -- one leaf more
   pub leaves-more : (a b : List (Node C R)) (n : ℕ) (xs : List (Point C W)) (x : Point C W) → leaves_at m a n ≡ leaves_from 0 xs

@@ -1,7 +1,6 @@
 -- One level more: the trees of the next height are all there is.
-use Rattle.std.proofs.Common.{◌≡◌, ℕ, suc, ◌+◌, ◌*◌, ◌^◌, ◌<◌, ◌≤◌, List, length, sym, refl, ap, ◌∙◌, subst, ⊎_elim, le_trans, mul_assoc, mul-le-mul_left, one-mul, pow-suc, mul-one, arith, pow_mono}
+use Rattle.std.proofs.Common.{◌≡◌, ℕ, suc, ◌+◌, ◌*◌, ◌^◌, ◌<◌, ◌≤◌, List, length, sym, refl, ap, ◌∙◌, subst, le_trans, mul_assoc, mul-le-mul_left, one-mul, pow-suc, arith}
 use native.Mathlib.Nat.{pow-zero}
-use Rattle.std.proofs.lemmas.Bool.{cases_lt}
 use Rattle.kinds.specs.Meaning.{Meaning}
 use Rattle.plain.specs.declared.point.Key.{Key}
 use Rattle.plain.specs.declared.point.Point.{Point}
@@ -32,17 +31,6 @@ module _ {C W : Type 0} where
     all-degrees-less none d = tt
     all-degrees-less (more t ts) d = (degrees-less t d.0, all-degrees-less ts d.1)
 
--- a height whose power of 2 is small is small
-low-height : (h left n : ℕ) → 1 ≤ left → 2 ^ h * left ≤ n → n ≤ 32767 → h < 255
-low-height h left n some low few = ⊎_elim (λ l. omega arith) (λ l. absurd (large l)) (cases_lt h 15)
-  where
-    large : 15 ≤ h → ⊥
-    large l =
-        let one : 2 ^ h * 1 ≤ 2 ^ h * left = mul-le-mul_left (2 ^ h) some in
-        let big : 32768 ≤ 2 ^ h = pow_mono l in
-        let same : 2 ^ h * 1 ≡ 2 ^ h = mul-one (2 ^ h) in
-        omega arith
-
 module _ {C W R : Type 0} (m : Meaning C W R) where
   -- ---- the leaves
   pub raising-starts : (a : List (Node C R)) (n : ℕ) → 2 * n ≤ suc (length a) → Leaves m a n → Raising m a n (laid_at m a n) (tree_over m a n) 0 n 0
@@ -72,22 +60,8 @@ module _ {C W R : Type 0} (m : Meaning C W R) where
     abbrev ts : Forest C W
     ts = trees_in m b h left first
 
-    -- what is asked where the parents are laid
-    pub raising-ready : n ≤ 32767 → length b ≤ 32767 →
-        record {
-          small : length b ≤ 32767;
-          low : h < 255;
-          some : 2 ≤ left;
-          room : 2 * p + left ≤ 2 * length b;
-          sounds : Sounds p h ts;
-        }
-    raising-ready few small = record {
-      small = small;
-      low = low-height h left n (omega arith) on.low few;
-      some = two;
-      room = omega (arith, on.room);
-      sounds = record { level = on.level; degrees = all-degrees-less ts on.degrees; apart = λ q. omega (arith, on.places q) };
-    }
+    pub raising-sounds : Sounds p h ts
+    raising-sounds = record { level = on.level; degrees = all-degrees-less ts on.degrees; apart = λ q. omega (arith, on.places q) }
 
     module _ (c : List (Node C R)) (len : length c ≡ length b) (made : ℕ) (laid : (k : Key C) → trees_in m c (suc h) made p ≡ parents m left h p k ts) where
       abbrev vs : Forest C W

@@ -1,10 +1,8 @@
 -- The weight found on the way to a key: in the table as in the tree, and in the tree as in the set.
-use Rattle.std.proofs.Common.{◌≡◌, ℕ, zero, suc, ◌-◌, ◌<◌, cond, List, length, get_or, Some, None, Option, sym, refl, ap, ◌∙◌, subst, append-nil}
+use Rattle.std.proofs.Common.{◌≡◌, ℕ, zero, suc, ◌-◌, ◌<◌, List, length, get_or, Some, Option, sym, refl, ap, ◌∙◌, subst, append-nil}
 use Rattle.std.specs.List.{slice_get}
-use Rattle.std.specs.Ordering.{is_eq}
 use Rattle.kinds.specs.Meaning.{Meaning, First, Second}
 use Rattle.plain.specs.declared.point.Key.{Key}
-use Rattle.plain.specs.Points.{key_order}
 use Rattle.plain.specs.Set.{weight_at}
 use Rattle.trees.specs.Tree.{Tree, Forest, gone, leaf, fork, none, more, nth_tree, points, points_all}
 use Rattle.trees.specs.Kept.{pick, found}
@@ -16,15 +14,14 @@ use Rattle.shapes.proofs.Wholes.{whole-sorted}
 use Rattle.shapes.specs.Settles.{Whole}
 use Rattle.table.specs.declared.node.Node.{Node}
 use Rattle.table.specs.declared.header.Header.{Header}
-use Rattle.table.specs.Reading.{leaf_of, tree_at}
-use Rattle.table.specs.Keys.{key_in}
+use Rattle.table.specs.Reading.{tree_at}
 use Rattle.table.proofs.Frames.{nth-grow}
 use Rattle.table.proofs.Steps.{kids, below, fork-was}
 use Rattle.tree.specs.Places.{pick_at}
 use Rattle.tree.specs.Standing.{points_of, Ruled}
 use Rattle.tree.proofs.Heights.{up}
 use Rattle.tree.proofs.Picks.{pick-tree}
-use Rattle.change.proofs.Stands.{forest-some, forest-none}
+use Rattle.change.proofs.Stands.{forest-some}
 
 -- ---- in the tree as in the set
 module _ {C W R : Type 0} (m : Meaning C W R) (first : First m) (second : Second m) where
@@ -45,9 +42,6 @@ module _ {C W R : Type 0} (m : Meaning C W R) (first : First m) (second : Second
 
   -- the tree that stands in a table, none or one
   module _ (ns : List (Node C R)) (hd : Header) (k : Key C) (r : Option W) where
-    pub find_none : hd.count ≡ 0 → r ≡ None → r ≡ weight_at m k (points_of m ns hd)
-    find_none z e = e ∙ ap (λ f. weight_at m k (points_all f)) (sym (forest-none m ns hd z))
-
     pub find-some : (hd.count ≡ 0 → ⊥) → r ≡ found m hd.top.height k (tree_at m ns hd.top.height hd.top.root) → Ruled m ns hd → r ≡ weight_at m k (points_of m ns hd)
     find-some pos e ruled =
         let t = tree_at m ns hd.top.height hd.top.root in
@@ -58,10 +52,6 @@ module _ {C W R : Type 0} (m : Meaning C W R) (first : First m) (second : Second
 
 -- ---- in the table as in the tree
 module _ {C W R : Type 0} (m : Meaning C W R) (a : List (Node C R)) (k : Key C) (H at : ℕ) (n : Node C R) (is : slice_get a at ≡ Some n) where
-  -- at a leaf
-  pub found-leaf : H ≡ 0 → (r : Option W) → r ≡ cond (is_eq (key_order m k (key_in n.own))) (Some (m.recalled n.own.weight)) None → r ≡ found m H k (tree_at m a H at)
-  found-leaf z r e = subst (λ j. r ≡ found m j k (tree_at m a j at)) (sym z) (e ∙ ap (found m 0 k) (sym (ap (leaf_of m at) is)))
-
   -- at a node above others
   pub found-on : (H ≡ 0 → ⊥) → (i : ℕ) → i < length (kids m n) → i ≡ pick_at m a k (kids m n) → (child : ℕ) → child ≡ get_or (kids m n) i 0 → (r : Option W) → r ≡ found m (H - 1) k (tree_at m a (H - 1) child) → r ≡ found m H k (tree_at m a H at)
   found-on pos i lt picked child there r e =

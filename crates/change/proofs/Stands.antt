@@ -1,6 +1,6 @@
 -- From a tree that stands in a table to the tree at its root.
 use Rattle.std.proofs.Common.{◌≡◌, eqb, List, length, ap, subst, arith}
-use Rattle.std.proofs.lemmas.Bool.{cond-true, cond-false, eq-eqb, ne_eqb}
+use Rattle.std.proofs.lemmas.Bool.{cond-false, ne_eqb}
 use Rattle.kinds.specs.Meaning.{Meaning}
 use Rattle.trees.specs.Tree.{Tree, Forest, gone, leaf, fork, none, more, uses_all}
 use Rattle.trees.specs.Rules.{Degrees, DegreesAll}
@@ -23,12 +23,9 @@ module _ {C W : Type 0} where
     all-degrees-less (more t ts) d = (degrees-less t d.0, all-degrees-less ts d.1)
 
 module _ {C W R : Type 0} (m : Meaning C W R) (ns : List (Node C R)) (hd : Header) where
-  -- with points there is the tree at the root, and else none
+  -- with points there is the tree at the root
   pub forest-some : (hd.count ≡ 0 → ⊥) → forest_of m ns hd ≡ more (tree_at m ns hd.top.height hd.top.root) none
   forest-some pos = cond-false (eqb hd.count 0) none (more (tree_at m ns hd.top.height hd.top.root) none) (ne_eqb hd.count 0 pos)
-
-  pub forest-none : hd.count ≡ 0 → forest_of m ns hd ≡ none
-  forest-none z = cond-true (eqb hd.count 0) none (more (tree_at m ns hd.top.height hd.top.root) none) (eq-eqb hd.count 0 z)
 
   -- the tree at the root is sound
   pub standing-sound : Standing m ns hd → (hd.count ≡ 0 → ⊥) → Sound (length ns) hd.top.height (tree_at m ns hd.top.height hd.top.root)

@@ -22,10 +22,9 @@ fn weight_if<K: Kind>(
 ) -> Option<K::Weight>
     ensures { result ≡ (if is_eq (key_order K.Kind.meaning key (key_in s)) then Some (K.Kind.meaning.recalled s.weight) else None) }
 {
-    if key_order::<K>(key, s.key()).is_eq() {
-        return Some(K::recall(s.weight));
-    }
-    None
+    key_order::<K>(key, s.key())
+        .is_eq()
+        .then(|| K::recall(s.weight))
 }
 
 // The weight at the leaf on the way to a key, if the leaf has that key.

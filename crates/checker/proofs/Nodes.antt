@@ -32,10 +32,6 @@ first-parts (p ∷ ps) some =
     let n : suc (length ps) - 1 ≡ length ps = omega arith in
     rw (n, take-length)
 
--- there is one less of them
-pub after-less : (ps : List ℕ) → 1 ≤ length ps → length ps ≡ suc (length (after_first ps))
-after-less ps some = ap length (first-parts ps some)
-
 module _ {C W R : Type 0} (m : Meaning C W R) (ns : List (Node C R)) where
   kept-one : (o : Option (Stored C R)) → length (option_to_list (point_in_any m o)) ≡ length (option_to_list o)
   kept-one None = refl
@@ -72,15 +68,6 @@ module _ {C W R : Type 0} (m : Meaning C W R) (ns : List (Node C R)) where
       has-after i = subst (λ l. ContainsAt (points_all (grow (tree_at m ns h) l)) x) (sym parts) (has_append_right (points (tree_at m ns h p)) (points_all (grow (tree_at m ns h) qs)) x i)
 
     -- ---- how many points they have, and how many are kept
-    pub count-leaf : h ≡ 0 → (own rest : Counts) → own.points ≡ 1 → own.kept ≡ length (option_to_list n.kept) → Counted (grow (tree_at m ns h) qs) (Some rest) → (r : Option Counts) → Added own rest r → Counted (grow (tree_at m ns h) ps) r
-    count-leaf z own rest op ok cr None added = tt
-    count-leaf z own rest op ok cr (Some r) added =
-        let e = trees-leaf z in
-        let us = grow (tree_at m ns h) qs in (
-          omega (arith, ap (λ f. length (points_all f)) e),
-          omega (arith, ap (λ f. length (kept_all f)) e, length-append (option_to_list (kept_in m n)) (kept_all us), kept-one n.kept),
-        )
-
     pub count-fork : (h ≡ 0 → ⊥) → (own below rest all : Counts) → own.points ≡ 0 → own.kept ≡ length (option_to_list n.kept)
         → Counted (under h n) (Some below) → Counted (grow (tree_at m ns h) qs) (Some rest) → Added below rest (Some all) → (r : Option Counts) → Added own all r → Counted (grow (tree_at m ns h) ps) r
     count-fork pos own below rest all op ok cb cr sum None added = tt

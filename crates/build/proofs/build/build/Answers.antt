@@ -1,21 +1,20 @@
 use Rattle.std.proofs.Common.{◌≤◌, arith}
 use Rattle.build.specs.Leaves.{laid_at}
 use Rattle.build.specs.Stages.{tree_over}
-use Rattle.build.proofs.Levels.{raising-starts, raising-ready, raising-less, raising-turns}
+use Rattle.build.proofs.Levels.{raising-starts, raising-sounds, raising-less, raising-turns}
 use Rattle.build.proofs.Roots.{rooted}
 use Rattle.build.proofs.build.build.Goals as goal
 
 pub loop-level-init : goal.loop-level-init
 loop-level-init g c = raising-starts g.K.Kind.meaning c.args.nodes.now c.args.count c.requires.room c.requires.leaves
 
-pub lay_level-level-requires : goal.lay_level-level-requires
-lay_level-level-requires g c =
+pub lay_level-level-requires-clause-sounds : goal.lay_level-level-requires-clause-sounds
+lay_level-level-requires-clause-sounds g c =
     let m = g.K.Kind.meaning in
     let a = c.args.nodes.now in
     let n = c.args.count in
     let v = c.loop-level.level in
-    let two : 2 ≤ v.count = omega arith in
-    raising-ready m c.loop-level.nodes n (laid_at m a n) (tree_over m a n) v.first v.count v.height c.loop-level.invariant two (omega (arith, c.requires.room, c.requires.small)) (omega (arith, c.requires.small, c.loop-level.auto.nodes))
+    raising-sounds m c.loop-level.nodes n (laid_at m a n) (tree_over m a n) v.first v.count v.height c.loop-level.invariant (omega arith)
 
 pub loop-level-smaller : goal.loop-level-smaller
 loop-level-smaller g c =

@@ -1,22 +1,7 @@
 use Rattle.std.proofs.Common.{◌≡◌, suc, ◌+◌, ◌-◌, ◌<◌, subst, arith}
 use Rattle.build.specs.Stages.{level_over, Laying}
-use Rattle.build.proofs.Turns.{laying-starts, group-size, turn-ready, laying-turns, laying-ends}
+use Rattle.build.proofs.Turns.{turn-ready, laying-turns, laying-ends}
 use Rattle.build.proofs.level.lay_level.Goals as goal
-
-pub loop-from-init : goal.loop-from-init
-loop-from-init g c =
-    let m = g.K.Kind.meaning in
-    let a = c.args.nodes.now in
-    let v = c.args.level in
-    let all : v.count ≡ v.first + v.count - v.first = omega arith in
-    subst (λ j. Laying m a v.height (v.first + v.count) (level_over m a v.height v.count v.first) v.first j 0) all (laying-starts m a v.height v.first v.count c.requires.some c.requires.room c.requires.sounds)
-
-pub in_row-requires-clause-few : goal.in_row-requires-clause-few
-in_row-requires-clause-few g c =
-    let v = c.args.level in
-    let p = v.first + v.count in
-    let some : 0 < p - c.loop-from.from = omega arith in
-    (group-size g.K.Kind.meaning c.loop-from.nodes v.height p (level_over g.K.Kind.meaning c.args.nodes.now v.height v.count v.first) c.loop-from.from (p - c.loop-from.from) c.loop-from.made c.loop-from.invariant some c.group_size-size.result c.group_size-size.ensures).1
 
 pub settle-requires : goal.settle-requires
 settle-requires g c =

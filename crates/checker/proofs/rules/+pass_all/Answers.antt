@@ -1,14 +1,7 @@
-use Rattle.std.proofs.Common.{length, sym, refl, ap, ◌∙◌, arith}
-use Rattle.table.proofs.Cases.{few}
+use Rattle.std.proofs.Common.{sym, refl, ◌∙◌}
 use Rattle.checker.specs.Passes.{kept_over}
-use Rattle.checker.proofs.Nodes.{after-less, pass-leaf, pass-fork}
+use Rattle.checker.proofs.Nodes.{pass-leaf, pass-fork}
 use Rattle.checker.proofs.rules.+pass_all.Goals as goal
-
-pub pass_all-requires : goal.pass_all-requires
-pass_all-requires g t c κs within = (omega (arith, after-less c.args.places.now c.in-len1-up.len_at_least), within)
-
-pub pass_all-requires-2 : goal.pass_all-requires-2
-pass_all-requires-2 g t c κs within = (omega (arith, ap length c.as_slice.ensures, few c.in-Some.n.children), within)
 
 pub returns-then-height-eq0 : goal.returns-then-height-eq0
 returns-then-height-eq0 g t c e =
