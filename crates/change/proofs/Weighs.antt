@@ -6,17 +6,15 @@ use Rattle.plain.specs.declared.point.Key.{Key}
 use Rattle.plain.specs.declared.point.Point.{Point}
 use Rattle.plain.specs.Set.{reweigh, stands}
 use Rattle.trees.specs.Tree.{Tree, none, more, uses, uses_all, points_all, size_all}
-use Rattle.trees.specs.Kept.{push}
 use Rattle.trees.specs.Moves.{with_weight}
 use Rattle.trees.proofs.Bares.{bare, alike-uses, alike-level, alike-degrees, alike-keys_all}
 use Rattle.shapes.specs.Shape.{occurs, Holds}
 use Rattle.shapes.specs.Settles.{Whole}
 use Rattle.shapes.proofs.Changes.{with-weight-bare, with-weight-changed, with-weight-whole}
 use Rattle.table.specs.declared.node.Node.{Node}
-use Rattle.table.specs.declared.node.Stored.{Stored}
 use Rattle.table.specs.declared.header.Header.{Header}
 use Rattle.table.specs.Spares.{spares}
-use Rattle.table.specs.Reading.{point_in, tree_at, inside, Sound, Became}
+use Rattle.table.specs.Reading.{tree_at, inside, Sound, Became}
 use Rattle.table.proofs.Steps.{inside_one}
 use Rattle.tree.specs.Standing.{forest_of, points_of, Standing, Ruled}
 use Rattle.tree.proofs.Spared.{spares-kept}
@@ -42,11 +40,6 @@ module _ {C W R : Type 0} (m : Meaning C W R) where
       tree = two.tree ∙ ap g one.tree;
       frame = λ q z. two.frame q (ap (λ v. uses v q) one.tree ∙ alike-uses (f (tree_at m a h p)) (tree_at m a h p) (like (tree_at m a h p)) q ∙ z) ∙ one.frame q z;
     }
-
-  -- a stored point joins, by its parts
-  pub pushed-as : (b d : List (Node C R)) (h p : ℕ) (k : Key C) (r : R) (x : Stored C R) → x ≡ record { at = k.at; number = k.number; weight = r }
-      → Became m b d h p (push m h (point_in m x) (tree_at m b h p)) → Became m b d h p (push m h (record { key = k; weight = m.recalled r }) (tree_at m b h p))
-  pushed-as b d h p k r x e bec = subst (λ y. Became m b d h p (push m h (point_in m y) (tree_at m b h p))) e bec
 
   -- ---- the tree that stands
   module _ (a b : List (Node C R)) (hd : Header) (k : Key C) (w : W) (len : length b ≡ length a) (s : Standing m a hd) (pos : hd.count ≡ 0 → ⊥)

@@ -23,10 +23,10 @@ use Rattle.checker.specs.Counted.{Added, Counted}
 use Rattle.checker.specs.Passes.{next_key, next_at, Heads, Follows, LeafPasses, ForkPasses, Passes, PassesAll}
 
 -- the places after the first
-abbrev after_first : List ℕ → List ℕ
-after_first ps = take (length ps - 1) (drop 1 ps)
+abbrev others : List ℕ → List ℕ
+others ps = take (length ps - 1) (drop 1 ps)
 
-first-parts : (ps : List ℕ) → 1 ≤ length ps → ps ≡ get_or ps 0 0 ∷ after_first ps
+first-parts : (ps : List ℕ) → 1 ≤ length ps → ps ≡ get_or ps 0 0 ∷ others ps
 first-parts [] some = absurd (omega arith)
 first-parts (p ∷ ps) some =
     let n : suc (length ps) - 1 ≡ length ps = omega arith in
@@ -37,6 +37,10 @@ module _ {C W R : Type 0} (m : Meaning C W R) (ns : List (Node C R)) where
   kept-one None = refl
   kept-one (Some s) = refl
 
+  next-tree : (h : ℕ) (ps : List ℕ) (u : Option (Key C)) → next_key (grow (tree_at m ns h) ps) u ≡ next_at ns ps u
+  next-tree h [] u = refl
+  next-tree h (p ∷ ps) u = key-tree m ns h p
+
   -- the trees below a node, of one less than the height
   abbrev pub under : ℕ → Node C R → Forest C W
   under h n = grow (tree_at m ns (h - 1)) (kids_of n.children)
@@ -46,7 +50,7 @@ module _ {C W R : Type 0} (m : Meaning C W R) (ns : List (Node C R)) where
     p = get_or ps 0 0
 
     abbrev qs : List ℕ
-    qs = after_first ps
+    qs = others ps
 
     parts : ps ≡ p ∷ qs
     parts = first-parts ps some
@@ -80,16 +84,9 @@ module _ {C W R : Type 0} (m : Meaning C W R) (ns : List (Node C R)) where
         )
 
     -- ---- what passes
-    next-tree : (u : Option (Key C)) → next_key (grow (tree_at m ns h) qs) u ≡ next_at ns qs u
-    next-tree u = go qs
-      where
-        go : (l : List ℕ) → next_key (grow (tree_at m ns h) l) u ≡ next_at ns l u
-        go [] = refl
-        go (q ∷ l) = key-tree m ns h q
-
     module _ (a : Option (Option (Point C W))) (u next : Option (Key C)) (ne : next ≡ next_at ns qs u) (f : Follows m a (kept_in m n)) (rest : PassesAll m (grow (tree_at m ns h) qs) a u h) where
       pass-more : (t : Tree C W) → grow (tree_at m ns h) ps ≡ more t (grow (tree_at m ns h) qs) → kept_by t ≡ kept_in m n → Passes m t next h → PassesAll m (grow (tree_at m ns h) ps) a u h
-      pass-more t e k one = subst (λ ts. PassesAll m ts a u h) (sym e) (subst (Follows m a) (sym k) f, subst (λ v. Passes m t v h) (ne ∙ sym (next-tree u)) one, rest)
+      pass-more t e k one = subst (λ ts. PassesAll m ts a u h) (sym e) (subst (Follows m a) (sym k) f, subst (λ v. Passes m t v h) (ne ∙ sym (next-tree h qs u)) one, rest)
 
       pub pass-leaf : h ≡ 0 → LeafPasses m (point_in m n.own) (kept_in m n) next → PassesAll m (grow (tree_at m ns h) ps) a u h
       pass-leaf z here = pass-more (leaf p (point_in m n.own) (kept_in m n)) (trees-leaf z) refl (z, here)
@@ -100,8 +97,8 @@ module _ {C W R : Type 0} (m : Meaning C W R) (ns : List (Node C R)) where
           pass-more t (trees-fork pos) refl (subst (Passes m t next) (sym (up h pos)) (here, below))
 
   -- the first of some trees has the key
-  pub heads-at : (h : ℕ) (k : Key C) (ps : List ℕ) → next_at ns ps None ≡ Some k → Heads k (grow (tree_at m ns h) ps)
-  heads-at h k [] e = let z : ◌≡◌ {A = ℕ} 0 1 = cc in absurd (omega arith)
+  heads-at : (h : ℕ) (k : Key C) (ps : List ℕ) → next_at ns ps None ≡ Some k → Heads k (grow (tree_at m ns h) ps)
+  heads-at h k [] e = cc
   heads-at h k (p ∷ ps) e = key-tree m ns h p ∙ e
 
   -- a fork passes by its parts

@@ -1,7 +1,15 @@
 use Rattle.std.proofs.Common.{◌≡◌, suc, ◌+◌, ◌-◌, ◌<◌, subst, arith}
 use Rattle.build.specs.Stages.{level_over, Laying}
-use Rattle.build.proofs.Turns.{turn-ready, laying-turns, laying-ends}
+use Rattle.build.proofs.Turns.{laying-starts, turn-ready, laying-turns, laying-ends}
 use Rattle.build.proofs.level.lay_level.Goals as goal
+
+pub loop-from-init : goal.loop-from-init
+loop-from-init g c =
+    let m = g.K.Kind.meaning in
+    let a = c.args.nodes.now in
+    let v = c.args.level in
+    let all : v.count ≡ v.first + v.count - v.first = omega arith in
+    subst (λ j. Laying m a v.height (v.first + v.count) (level_over m a v.height v.count v.first) v.first j 0) all (laying-starts m a v.height v.first v.count c.requires.some c.requires.room c.requires.sounds)
 
 pub settle-requires : goal.settle-requires
 settle-requires g c =

@@ -1,6 +1,6 @@
 use Rattle.trees.specs.Kept.{push, take_out, weigh}
 use Rattle.trees.proofs.Bares.{take_bare, weigh-bare}
-use Rattle.change.proofs.Weighs.{sound-after, became-after, pushed-as}
+use Rattle.change.proofs.Weighs.{sound-after, became-after}
 use Rattle.change.proofs.change.reweigh_below.Goals as goal
 
 pub weigh-requires : goal.weigh-requires
@@ -26,6 +26,6 @@ returns g c =
     let p = c.args.tree.root in
     let k = c.args.key in
     let w = m.recalled c.args.weight in
-    let pushed = pushed-as m c.weigh.new.nodes c.push.new.nodes h p k c.args.weight c.stored.result c.stored.ensures c.push.ensures in
+    let pushed = rw c.stored.ensures at c.push.ensures in
     became-after m c.args.nodes.now c.take_out.new.nodes h p (take_out m h k) (take_bare m h k) c.take_out.ensures c.push.new.nodes (λ t. push m h (record { key = k; weight = w }) (weigh m h k w t))
     (became-after m c.take_out.new.nodes c.weigh.new.nodes h p (weigh m h k w) (weigh-bare m h k w) c.weigh.ensures c.push.new.nodes (push m h (record { key = k; weight = w })) pushed)

@@ -1,9 +1,12 @@
 use Rattle.std.proofs.Common.{◌-◌, length, sym, subst, arith}
 use Rattle.table.specs.Reading.{tree_at, Sound}
-use Rattle.table.proofs.Steps.{kids-some, kids-within, kid-sound}
+use Rattle.table.proofs.Steps.{sound-within, kids-some, kids-within, kid-sound}
 use Rattle.tree.proofs.Heights.{sound-up}
 use Rattle.change.proofs.Founds.{found-on}
 use Rattle.change.proofs.find.+find_below.Goals as goal
+
+pub read-n-requires : goal.read-n-requires
+read-n-requires g t c = sound-within g.K.Kind.meaning c.args.nodes.now c.args.tree.height c.args.tree.root c.requires
 
 pub pick_child-i-requires : goal.pick_child-i-requires
 pick_child-i-requires g t c =
