@@ -1,8 +1,8 @@
 -- A line is cut at its first blank, and a text at its first newline, in one way.
-use Rattle.std.proofs.Common.{◌≡◌, ℕ, suc, ◌+◌, ◌-◌, ◌<◌, List, [], ◌∷◌, ◌++◌, length, get_or, take, drop, sym, refl, ap, ◌∙◌, subst, arith, length-append}
+use Rattle.std.proofs.Common.{◌≡◌, ℕ, suc, ◌<◌, List, [], ◌∷◌, ◌++◌, length, get_or, sym, refl, ap, ◌∙◌, subst, arith, length-append}
 use Rattle.std.specs.List.{AllByRecursion}
-use Rattle.std.proofs.lemmas.List.{take-append-drop, drop_more, take_rest, get_or_at}
-use Rattle.std.proofs.ByRecursion.{All-get_or}
+use Rattle.std.proofs.lemmas.List.{get_or_at}
+use Rattle.std.proofs.lemmas.List.Elements.{All-from_recursion, All-get_or}
 use Rattle.lines.specs.Digits.{Ten}
 use Rattle.lines.specs.Grammar.{Head, Then}
 
@@ -11,15 +11,7 @@ abbrev pub Lacks : ℕ → List ℕ → Type 0
 Lacks b x = (k : ℕ) → k < length x → get_or x k 0 ≡ b → ⊥
 
 pub no-blank : (x : List ℕ) → AllByRecursion Ten x → Lacks 32 x
-no-blank x h k lt e = let d = All-get_or Ten x k 0 lt h in omega (arith, d.0, e)
-
--- a list is cut at the place of a blank
-pub cut_at : (s : List ℕ) (i : ℕ) → i < length s → get_or s i 0 ≡ 32 → s ≡ take (i - 0) s ++ (32 ∷ take (length s - (i + 1)) (drop (i + 1) s))
-cut_at s i lt e =
-    let z : i - 0 ≡ i = omega arith in
-    sym (take-append-drop i s)
-    ∙ ap (λ l. take i s ++ l) (drop_more s i 0 lt ∙ ap (λ x. x ∷ drop (i + 1) s) e ∙ ap (λ l. 32 ∷ l) (sym (take_rest s (i + 1))))
-    ∙ ap (λ k. take k s ++ (32 ∷ take (length s - (i + 1)) (drop (i + 1) s))) (sym z)
+no-blank x h k lt e = let d = All-get_or Ten x k 0 lt (All-from_recursion Ten x h) in omega (arith, d.0, e)
 
 -- a list is cut in one way at the first place of a byte
 pub cut-once : (b : ℕ) (x y p q : List ℕ) → Lacks b x → Lacks b p → x ++ (b ∷ y) ≡ p ++ (b ∷ q) → (x ≡ p) × (y ≡ q)
@@ -49,3 +41,10 @@ head-once s a b m n y z h j =
 -- what follows the field that was cut off
 pub then-rest : (s : List ℕ) (a b m n : ℕ) (y : List ℕ) (Q : List ℕ → Type 0) → Head a m y s → Then b n Q s → Q y
 then-rest s a b m n y Q h t = subst Q (sym (head-once s a b m n y t.0 h t.1).1) t.2
+
+-- two fields before a blank, and what follows
+pub heads-of : (a b m n : ℕ) (Q : List ℕ → Type 0) (s : List ℕ) (h : Then a m (Then b n Q) s) → Then a m (Head b n h.2.0) s
+heads-of a b m n Q s h = (h.0, h.1, h.2.1)
+
+pub heads-rest : (s : List ℕ) (a b k l m n : ℕ) (y : List ℕ) (Q : List ℕ → Type 0) → Then a k (Head b l y) s → Then a m (Then b n Q) s → Q y
+heads-rest s a b k l m n y Q t h = then-rest t.0 b b l n y Q t.2 (then-rest s a a k m t.0 (Then b n Q) t.1 h)

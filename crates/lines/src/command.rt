@@ -1,5 +1,5 @@
 // The commands that a line can give; patterns and thresholds are the bits of binary32 numbers.
-#[derive(Clone, Copy, PartialEq, Eq)]
+#[derive(Clone, Copy, Debug, PartialEq, Eq)]
 pub enum Command {
     Insert {
         epoch: u64,

@@ -1,7 +1,8 @@
 // Numbers in digits: decimal ones, and patterns of eight hexadecimal digits.
-ghost use Rattle.std.specs.Prelude.{◌≡◌, ℕ, ◌<◌, ◌&&◌, MatchOption, ◌==◌, nat_le, nat_lt};
-ghost use Rattle.lines.specs.Limits.{most_digits, pattern_digits};
-ghost use Rattle.lines.specs.Digits.{Decimal, Pattern, Hex, digit};
+// Not the library's `parse`: it reads text, which a line need not be, and takes a sign, small letters and any count of digits.
+// Not one function for both: it would take the base, the digits, the count and the bound as parameters.
+ghost use Rattle.std.specs.Prelude.{◌≡◌, ℕ, ◌<◌, MatchOption};
+ghost use Rattle.lines.specs.Digits.{Decimal, Pattern, Ten, Hex, digit};
 
 const MOST_DIGITS: usize = 20;
 
@@ -11,64 +12,48 @@ const PATTERN_DIGITS: usize = 8;
 pub fn decimal(s: &[u8], top: u64) -> Option<u64>
     ensures { MatchOption result ((n : ℕ) → Decimal top n s.now → ⊥) (λ n. Decimal top n s.now) }
 {
-    if !is_decimal_len(s.len()) {
+    if s.is_empty() || s.len() > MOST_DIGITS {
         return None;
     }
     let mut n = 0u64;
     for b in s {
-        if *b < b'0' || *b > b'9' {
-            return None;
-        }
-        let Some(tens) = n.checked_mul(10) else {
-            return None;
-        };
-        let Some(more) = tens.checked_add(u64::from(*b - b'0')) else {
-            return None;
-        };
-        n = more;
+        let d = decimal_digit(*b)?;
+        n = n.checked_mul(10)?.checked_add(u64::from(d))?;
     }
-    if n <= top { Some(n) } else { None }
+    (n <= top).then_some(n)
 }
 
 // The number that a pattern writes.
 pub fn pattern(s: &[u8]) -> Option<u32>
     ensures { MatchOption result ((n : ℕ) → Pattern n s.now → ⊥) (λ n. Pattern n s.now) }
 {
-    if !is_pattern_len(s.len()) {
+    if s.len() != PATTERN_DIGITS {
         return None;
     }
     let mut n = 0u32;
     for b in s {
-        let Some(d) = hex_digit(*b) else {
-            return None;
-        };
+        let d = hex_digit(*b)?;
         n = n * 16 + u32::from(d);
     }
     Some(n)
 }
 
-// At least one digit, and not too many.
-fn is_decimal_len(n: usize) -> bool
-    ensures { result ≡ (nat_lt 0 n && nat_le n most_digits) }
+fn decimal_digit(b: u8) -> Option<u8>
+    ensures { MatchOption result (Ten b → ⊥) (λ d. Ten b × (d ≡ digit b)) }
 {
-    0 < n && n <= MOST_DIGITS
-}
-
-fn is_pattern_len(n: usize) -> bool
-    ensures { result ≡ (n == pattern_digits) }
-{
-    n == PATTERN_DIGITS
+    match b {
+        b'0'..=b'9' => Some(b - b'0'),
+        _ => None,
+    }
 }
 
 // What a digit of a pattern stands for.
 fn hex_digit(b: u8) -> Option<u8>
     ensures { MatchOption result (Hex b → ⊥) (λ d. Hex b × (d ≡ digit b) × (d < 16)) }
 {
-    if b >= b'0' && b <= b'9' {
-        Some(b - b'0')
-    } else if b >= b'A' && b <= b'F' {
-        Some(b - b'A' + 10)
-    } else {
-        None
+    match b {
+        b'0'..=b'9' => Some(b - b'0'),
+        b'A'..=b'F' => Some(b - b'A' + 10),
+        _ => None,
     }
 }

@@ -1,8 +1,7 @@
 // The fields of each command.
 ghost use Rattle.std.specs.Prelude.{◌≡◌, ℕ, ◌<◌, List, ◌∷◌, ◌++◌, length, MatchOption, ◌≢◌, slice_index};
-ghost use Rattle.lines.specs.Limits.{most_places};
 ghost use Rattle.lines.specs.Digits.{Decimal};
-ghost use Rattle.lines.specs.Grammar.{Head, Key, Point, Window, Listing, Floor};
+ghost use Rattle.lines.specs.Grammar.{Head, Then, Key, Point, Window, Listing, Floor};
 
 use crate::digits::{decimal, pattern};
 
@@ -16,8 +15,7 @@ const MOST_PLACES: u64 = 64;
 pub fn point(s: &[u8]) -> Option<(u64, u32, u32)>
     ensures { MatchOption result ((e n p : ℕ) → Point e n p s.now → ⊥) (λ t. Point t.0 t.1 t.2 s.now) }
 {
-    let (e, rest) = head(s, TOP_EPOCH)?;
-    let (n, last) = head(rest, TOP_NUMBER)?;
+    let (e, n, last) = heads(s, TOP_EPOCH, TOP_NUMBER)?;
     let p = pattern(last)?;
     Some((e, n as u32, p))
 }
@@ -26,8 +24,7 @@ pub fn point(s: &[u8]) -> Option<(u64, u32, u32)>
 pub fn key(s: &[u8]) -> Option<(u64, u32)>
     ensures { MatchOption result ((e n : ℕ) → Key e n s.now → ⊥) (λ t. Key t.0 t.1 s.now) }
 {
-    let (e, rest) = head(s, TOP_EPOCH)?;
-    let n = decimal(rest, TOP_NUMBER)?;
+    let (e, n) = pair(s, TOP_EPOCH, TOP_NUMBER)?;
     Some((e, n as u32))
 }
 
@@ -35,38 +32,43 @@ pub fn key(s: &[u8]) -> Option<(u64, u32)>
 pub fn window(s: &[u8]) -> Option<(u64, u64)>
     ensures { MatchOption result ((l u : ℕ) → Window l u s.now → ⊥) (λ t. Window t.0 t.1 s.now) }
 {
-    let (l, rest) = head(s, TOP_EPOCH)?;
-    let u = decimal(rest, TOP_EPOCH)?;
-    Some((l, u))
+    pair(s, TOP_EPOCH, TOP_EPOCH)
 }
 
 // A lower and an upper bound, and how many points to list.
 pub fn listing(s: &[u8]) -> Option<(u64, u64, u8)>
     ensures { MatchOption result ((l u k : ℕ) → Listing l u k s.now → ⊥) (λ t. Listing t.0 t.1 t.2 s.now) }
 {
-    let (l, rest) = head(s, TOP_EPOCH)?;
-    let (u, last) = head(rest, TOP_EPOCH)?;
-    let k = places(last)?;
-    Some((l, u, k))
-}
-
-fn places(s: &[u8]) -> Option<u8>
-    ensures { MatchOption result ((k : ℕ) → Decimal most_places k s.now → ⊥) (λ k. Decimal most_places k s.now) }
-{
-    match decimal(s, MOST_PLACES) {
-        Some(k) => Some(k as u8),
-        None => None,
-    }
+    let (l, u, last) = heads(s, TOP_EPOCH, TOP_EPOCH)?;
+    let k = decimal(last, MOST_PLACES)?;
+    Some((l, u, k as u8))
 }
 
 // A lower and an upper bound, and a threshold.
 pub fn floor(s: &[u8]) -> Option<(u64, u64, u32)>
     ensures { MatchOption result ((l u p : ℕ) → Floor l u p s.now → ⊥) (λ t. Floor t.0 t.1 t.2 s.now) }
 {
-    let (l, rest) = head(s, TOP_EPOCH)?;
-    let (u, last) = head(rest, TOP_EPOCH)?;
+    let (l, u, last) = heads(s, TOP_EPOCH, TOP_EPOCH)?;
     let p = pattern(last)?;
     Some((l, u, p))
+}
+
+// Two decimal fields, of at most `top` and at most `next`.
+fn pair(s: &[u8], top: u64, next: u64) -> Option<(u64, u64)>
+    ensures { MatchOption result ((a b : ℕ) → Then top a (Decimal next b) s.now → ⊥) (λ t. Then top t.0 (Decimal next t.1) s.now) }
+{
+    let (a, rest) = head(s, top)?;
+    let b = decimal(rest, next)?;
+    Some((a, b))
+}
+
+// The same before a second blank, and what follows it.
+fn heads(s: &[u8], top: u64, next: u64) -> Option<(u64, u64, &[u8])>
+    ensures { MatchOption result ((a b : ℕ) (y : List ℕ) → Then top a (Head next b y) s.now → ⊥) (λ t. Then top t.0 (Head next t.1 t.2.now) s.now) }
+{
+    let (a, rest) = head(s, top)?;
+    let (b, last) = head(rest, next)?;
+    Some((a, b, last))
 }
 
 // A decimal field of at most `top` before the first blank, and what follows that blank.
@@ -82,10 +84,6 @@ fn head(s: &[u8], top: u64) -> Option<(u64, &[u8])>
 fn field(s: &[u8]) -> Option<(&[u8], &[u8])>
     ensures { MatchOption result ((k : ℕ) → k < length s.now → slice_index s.now k ≢ 32) (λ p. ((k : ℕ) → k < length p.0.now → slice_index p.0.now k ≢ 32) × (s.now ≡ p.0.now ++ 32 ∷ p.1.now)) }
 {
-    for (i, b) in s.iter().enumerate() {
-        if *b == b' ' {
-            return Some((&s[0..i], &s[i + 1..]));
-        }
-    }
-    None
+    let i = s.iter().position(|b| *b == b' ')?;
+    Some((&s[..i], &s[i + 1..]))
 }
