@@ -1,1 +1,2 @@
 pub mod Residuals
+pub mod Places

@@ -1,41 +1,27 @@
 -- The residuals as a plain set, and what calls make of it.
-use Rattle.std.specs.Prelude.{◌≡◌, ℕ, ◌<◌, true, List, ◌++◌, length, drop, Some, None, Ok, Err, vec_items, Option, Result, slice_index_or, slice_set, Float}
-use Rattle.std.specs.List.{remove as removed}
+use Rattle.std.specs.Prelude.{◌≡◌, ℕ, List, ◌++◌, length, drop, Some, None, Ok, Err, Option, Result, Float}
 use Rattle.kinds.specs.Kinds.{small}
 use Rattle.refusals.specs.declared.Refusal.{Refusal}
-use Rattle.plain.specs.declared.point.Key.{Key}
 use Rattle.plain.specs.declared.point.Point.{Point}
-use Rattle.plain.specs.Set.{stands, put, remove, reweigh}
+use Rattle.plain.specs.Set.{put}
 use Rattle.plain.specs.Windows.{window, firsts, total}
 use Rattle.plain.specs.Refused.{insert_refused, frontier_refused}
 use Rattle.store.specs.declared.failure.Failure.{Failure}
 use Rattle.store.specs.declared.failure.Failure.TheVariants.{Refused, Memory}
-use Rattle.store.specs.declared.residuals.Residuals.{Residuals}
 
 -- a point of kind small
 abbrev pub P : Type 0
 P = Point ℕ Float
 
--- the points, in the order in which they lie
-abbrev pub points_of : Residuals → List P
-points_of s = vec_items s.points
-
 -- how many points there is room for, and how many places a frontier has
 abbrev pub room : ℕ
 room = 256
-
--- the key stands at place i: what is removed, and what has another weight, stands there
-pub record StandsAt (k : Key ℕ) (ps : List P) (i : ℕ) : Type 0 where
-  pub within : i < length ps
-  pub found : stands small k ps ≡ true
-  pub removes : remove small k ps ≡ removed ps i
-  pub reweighs : (w : Float) (p : P) → p ≡ slice_index_or ps i p → reweigh small k w ps ≡ slice_set ps i (record { key = p.key; weight = w })
 
 -- an insert that is granted leaves the set with the point; one that is refused leaves it as it was, and so does one that is not but finds no memory
 abbrev pub Inserted : P → List P → Result (Unit {0}) Failure → List P → Type 0
 Inserted p ps (Ok done) after = (insert_refused small room p ps ≡ None) × (after ≡ put small p ps)
 Inserted p ps (Err (Refused e)) after = (insert_refused small room p ps ≡ Some e) × (after ≡ ps)
-Inserted p ps (Err Memory) after = (insert_refused small room p ps ≡ None) × (after ≡ ps)
+Inserted p ps (Err (Memory e)) after = (insert_refused small room p ps ≡ None) × (after ≡ ps)
 
 -- a change that is granted leaves the new set, one that is refused the old one
 abbrev pub Changed : Option Refusal → List P → List P → Result (Unit {0}) Refusal → List P → Type 0

@@ -1,34 +1,15 @@
-// Where a point stands, or would stand.
-ghost use Rattle.std.specs.Prelude.{◌≡◌, ◌≤◌, false, length, MatchOption};
-ghost use Rattle.std.specs.List.{insert};
+// Where a key stands, or where its point would go.
+ghost use Rattle.std.specs.Prelude.{MatchResult};
 ghost use Rattle.kinds.specs.Kinds.{small};
-ghost use Rattle.plain.specs.Set.{put, stands};
-ghost use Rattle.store.specs.Residuals.{StandsAt};
+ghost use Rattle.plain.specs.Set.{Rising};
+ghost use Rattle.store.specs.Places.{StandsAt, GoesAt};
 
 use kinds::Small;
 use plain::{Key, Point, key_order};
 
-// The place of a point that does not stand yet.
-pub fn place(points: &[Point<u64, f32>], p: Point<u64, f32>) -> usize
-    ensures within { result ≤ length points.now }
-    ensures puts { put small p points.now ≡ insert points.now result p }
+pub fn place(points: &[Point<u64, f32>], key: Key<u64>) -> Result<usize, usize>
+    requires { Rising small points.now }
+    ensures { MatchResult result (StandsAt key points.now) (GoesAt key points.now) }
 {
-    for (i, q) in points.iter().enumerate() {
-        if key_order::<Small>(p.key, q.key).is_lt() {
-            return i;
-        }
-    }
-    points.len()
-}
-
-// The place of a key, if it stands.
-pub fn index_of(points: &[Point<u64, f32>], key: Key<u64>) -> Option<usize>
-    ensures { MatchOption result (stands small key points.now ≡ false) (λ i. StandsAt key points.now i) }
-{
-    for (i, q) in points.iter().enumerate() {
-        if key_order::<Small>(key, q.key).is_eq() {
-            return Some(i);
-        }
-    }
-    None
+    points.binary_search_by(|p| key_order::<Small>(p.key, key))
 }

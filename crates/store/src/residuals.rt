@@ -1,25 +1,41 @@
 // The points, and what changes them.
-ghost use Rattle.std.specs.Prelude.{◌≡◌, []};
+ghost use Rattle.std.specs.Prelude.{◌≡◌, [], MatchResult};
 ghost use Rattle.kinds.specs.Kinds.{small};
-ghost use Rattle.plain.specs.Set.{remove, reweigh};
-ghost use Rattle.plain.specs.Refused.{delete_refused, change_refused};
-ghost use Rattle.store.specs.Residuals.{points_of, Inserted, Changed};
+ghost use Rattle.plain.specs.Set.{Rising, remove, reweigh};
+ghost use Rattle.plain.specs.Refused.{insert_refused, delete_refused, change_refused};
+ghost use Rattle.store.specs.Residuals.{room, Inserted, Changed};
+ghost use Rattle.store.specs.Places.{GoesAt};
 
-use crate::checks::{change_refused, insert_refused};
+use crate::checks::ROOM;
 use crate::failure::Failure;
-use crate::place::{index_of, place};
+use crate::place::place;
+use kinds::{Kind, Small};
 use plain::{Key, Point};
 use refusals::Refusal;
 use std::alloc::Global;
+use std::marker::Model;
 
 #[derive(Drop)]
 pub struct Residuals {
     points: Vec<Point<u64, f32>>,
 }
 
+impl Model for Residuals {
+    ghost use Rattle.std.specs.Prelude.{ℕ, List, Float};
+    ghost use Rattle.kinds.specs.Kinds.{small};
+    ghost use Rattle.plain.specs.declared.point.Point.{Point};
+    ghost use Rattle.plain.specs.Set.{Rising};
+
+    ghost Value = { List (Point ℕ Float) };
+
+    ghost view = { λ s. s.points.items };
+
+    ghost invariant = { λ s. Rising small s.points.items };
+}
+
 impl Residuals {
     pub fn new(heap: Global) -> Residuals
-        ensures { points_of result ≡ [] }
+        ensures { result ≡ [] }
     {
         Residuals {
             points: Vec::new(heap),
@@ -27,46 +43,53 @@ impl Residuals {
     }
 
     pub(crate) fn points(&self) -> &[Point<u64, f32>]
-        ensures { result.now ≡ points_of self.now }
+        ensures { result.now ≡ self.now }
     {
         self.points.as_slice()
     }
 
     pub fn insert(&mut self, p: Point<u64, f32>) -> Result<(), Failure>
-        ensures { Inserted p (points_of self.old) result (points_of self.new) }
+        ensures { Inserted p self.old result self.new }
     {
-        if let Some(refusal) = insert_refused(self.points.as_slice(), p) {
-            return Err(Failure::Refused(refusal));
+        let i = self.new_place(p)?;
+        self.points.insert(i, p)?;
+        Ok(())
+    }
+
+    // The place of a point that may be inserted.
+    fn new_place(&self, p: Point<u64, f32>) -> Result<usize, Refusal>
+        ensures { MatchResult result (λ i. (insert_refused small room p self.now ≡ None) × GoesAt p.key self.now i) (λ e. insert_refused small room p self.now ≡ Some e) }
+    {
+        if !Small::is_fit(p.key.at, p.weight) {
+            return Err(Refusal::Unfit);
         }
-        let i = place(self.points.as_slice(), p);
-        match self.points.insert(i, p) {
-            Ok(()) => Ok(()),
-            Err(_) => Err(Failure::Memory),
+        match place(self.points.as_slice(), p.key) {
+            Ok(_) => Err(Refusal::Stands),
+            Err(_) if self.points.len() == ROOM => Err(Refusal::Full),
+            Err(i) => Ok(i),
         }
     }
 
     pub fn delete(&mut self, key: Key<u64>) -> Result<(), Refusal>
-        ensures { Changed (delete_refused small key (points_of self.old)) (points_of self.old) (remove small key (points_of self.old)) result (points_of self.new) }
+        ensures { Changed (delete_refused small key self.old) self.old (remove small key self.old) result self.new }
     {
-        match index_of(self.points.as_slice(), key) {
-            Some(i) => {
-                let _ = self.points.remove(i);
-                Ok(())
-            }
-            None => Err(Refusal::Missing),
-        }
+        let Ok(i) = place(self.points.as_slice(), key) else {
+            return Err(Refusal::Missing);
+        };
+        let _ = self.points.remove(i);
+        Ok(())
     }
 
     pub fn change(&mut self, key: Key<u64>, weight: f32) -> Result<(), Refusal>
-        ensures { Changed (change_refused small key weight (points_of self.old)) (points_of self.old) (reweigh small key weight (points_of self.old)) result (points_of self.new) }
+        ensures { Changed (change_refused small key weight self.old) self.old (reweigh small key weight self.old) result self.new }
     {
-        if let Some(refusal) = change_refused(self.points.as_slice(), key, weight) {
-            return Err(refusal);
+        if !Small::is_fit(key.at, weight) {
+            return Err(Refusal::Unfit);
         }
-        if let Some(i) = index_of(self.points.as_slice(), key) {
-            let p = self.points[i];
-            self.points[i] = Point { key: p.key, weight };
-        }
+        let Ok(i) = place(self.points.as_slice(), key) else {
+            return Err(Refusal::Missing);
+        };
+        self.points[i] = Point { key, weight };
         Ok(())
     }
 }
