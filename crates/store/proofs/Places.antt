@@ -101,11 +101,11 @@ found k ps h (Err i) le point = goes-at k ps i le (point (rises k ps h))
 
 -- ---- what a change leaves rises
 module _ (ps now : List P) (h : Rising small ps) where
-  pub put-rises : (p : P) (i : ℕ) → GoesAt p.key ps i → now ≡ insert ps i p → Rising small now
-  put-rises p i at e = subst (Rising small) (at.puts p refl ∙ sym e) ((set-laws small law).keeps.put_rises p ps at.missing h)
+  pub put_rises : (p : P) (i : ℕ) → GoesAt p.key ps i → now ≡ insert ps i p → Rising small now
+  put_rises p i at e = subst (Rising small) (at.puts p refl ∙ sym e) ((set-laws small law).keeps.put_rises p ps at.missing h)
 
-  pub remove-rises : (k : Key ℕ) (i : ℕ) → StandsAt k ps i → now ≡ removed ps i → Rising small now
-  remove-rises k i at e = subst (Rising small) (at.removes ∙ sym e) ((set-laws small law).keeps.remove_rises k ps h)
+  pub remove_rises : (k : Key ℕ) (i : ℕ) → StandsAt k ps i → now ≡ removed ps i → Rising small now
+  remove_rises k i at e = subst (Rising small) (at.removes ∙ sym e) ((set-laws small law).keeps.remove_rises k ps h)
 
-  pub reweigh-rises : (k : Key ℕ) (w : Float) (i : ℕ) → StandsAt k ps i → now ≡ set ps i (record { key = k; weight = w }) → Rising small now
-  reweigh-rises k w i at e = subst (Rising small) (at.reweighs w ∙ sym e) ((set-laws small law).keeps.reweigh_rises k w ps h)
+  pub reweigh_rises : (k : Key ℕ) (w : Float) (i : ℕ) → StandsAt k ps i → now ≡ set ps i (record { key = k; weight = w }) → Rising small now
+  reweigh_rises k w i at e = subst (Rising small) (at.reweighs w ∙ sym e) ((set-laws small law).keeps.reweigh_rises k w ps h)

@@ -48,6 +48,7 @@ impl Residuals {
         self.points.as_slice()
     }
 
+    #[tactic(auto, using(crate::proofs::Places::put_rises))]
     pub fn insert(&mut self, p: Point<u64, f32>) -> Result<(), Failure>
         ensures { Inserted p self.old result self.new }
     {
@@ -70,6 +71,7 @@ impl Residuals {
         }
     }
 
+    #[tactic(auto, using(crate::proofs::Places::remove_rises))]
     pub fn delete(&mut self, key: Key<u64>) -> Result<(), Refusal>
         ensures { Changed (delete_refused small key self.old) self.old (remove small key self.old) result self.new }
     {
@@ -80,6 +82,7 @@ impl Residuals {
         Ok(())
     }
 
+    #[tactic(auto, using(crate::proofs::Places::reweigh_rises))]
     pub fn change(&mut self, key: Key<u64>, weight: f32) -> Result<(), Refusal>
         ensures { Changed (change_refused small key weight self.old) self.old (reweigh small key weight self.old) result self.new }
     {

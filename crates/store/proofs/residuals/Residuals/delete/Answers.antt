@@ -1,8 +1,0 @@
-use Rattle.std.proofs.Common.{subst}
-use Rattle.store.specs.Places.{StandsAt}
-use Rattle.store.proofs.Places.{remove-rises}
-use Rattle.store.proofs.residuals.Residuals.delete.Goals as goal
-
-pub invariant_of-self : goal.invariant_of-self
-invariant_of-self c =
-    remove-rises c.self.inside.points.items _ c.self.invariant c.args.key c.in-Ok.i (subst (λ l. StandsAt c.args.key l c.in-Ok.i) c.as_slice.ensures.value c.in-Ok.ensures) c.remove.ensures.items
