@@ -1,7 +1,7 @@
 -- A pattern that is printed is read back.
 use Rattle.std.proofs.Common.{◌≡◌, ℕ, zero, suc, ◌+◌, ◌*◌, ◌/◌, ◌%◌, ◌^◌, ◌<◌, List, [], ◌∷◌, ◌++◌, length, refl, pow-suc, arith, rules}
 use Rattle.std.specs.List.{AllByRecursion}
-use Rattle.std.proofs.ByRecursion.{All-push}
+use Rattle.std.proofs.lemmas.List.Elements.{All-from_recursion, recursion_from_All, All-push}
 use Rattle.std.proofs.lemmas.List.{length_push}
 use Rattle.lines.specs.Digits.{Hex, digit, writes}
 use Rattle.script.specs.Text.{hex_byte, hex_text, ReadsBack}
@@ -21,7 +21,9 @@ hex-length (suc k) n = omega (arith, length_push (hex_text k (n / 16)) (hex_byte
 hex-digits : (k n : ℕ) → AllByRecursion Hex (hex_text k n)
 unfolding hex_text
 hex-digits zero n = tt
-hex-digits (suc k) n = All-push Hex (hex_text k (n / 16)) (hex_byte (n % 16)) (hex-digits k (n / 16)) (hex-digit (n % 16) (omega arith)).0
+hex-digits (suc k) n =
+    recursion_from_All Hex (hex_text k (n / 16) ++ (hex_byte (n % 16) ∷ []))
+    (All-push Hex (hex_text k (n / 16)) (hex_byte (n % 16)) (All-from_recursion Hex (hex_text k (n / 16)) (hex-digits k (n / 16))) (hex-digit (n % 16) (omega arith)).0)
 
 hex-value : (k n : ℕ) → n < 16 ^ k → n ≡ writes 16 0 (hex_text k n)
 unfolding hex_text

@@ -1,5 +1,5 @@
 -- What a command prints, and the set that it leaves.
-use Rattle.std.specs.Prelude.{◌≡◌, ℕ, List, ◌++◌, length, Some, None, Option, Result, OnOk, Float}
+use Rattle.std.specs.Prelude.{◌≡◌, ℕ, List, ◌++◌, length, Some, None, Option, Result, OnOk, Float, string_bytes}
 use Rattle.kinds.specs.Kinds.{small}
 use Rattle.kinds.specs.Weight.{weight_of}
 use Rattle.refusals.specs.declared.Refusal.{Refusal}
@@ -10,6 +10,7 @@ use Rattle.plain.specs.Windows.{window, matches, firsts, total}
 use Rattle.plain.specs.Refused.{insert_refused, delete_refused, change_refused, range_refused, frontier_refused}
 use Rattle.lines.specs.declared.command.Command.{Command}
 use Rattle.lines.specs.declared.command.Command.TheVariants.{Insert, Change, Delete, Sum, First, Range}
+use Rattle.script.specs.declared.session.Session.{Session}
 use Rattle.script.specs.Limits.{room, frontier}
 use Rattle.script.specs.Text.{ok_text, refusal_text, sum_text, first_text, range_text}
 
@@ -53,6 +54,6 @@ printed (Sum l u) ps = told (frontier_refused small l u frontier ps) (sum_text (
 printed (First l u k) ps = told (frontier_refused small l u frontier ps) (first_text (firsts small k l u ps))
 printed (Range l u p) ps = told (range_refused small l u (weight_of p)) (range_text (length (matches small l u (weight_of p) ps)))
 
--- a command that finds memory leaves the set that it should, and adds to the output what it should
-abbrev pub Obeyed : {X Y : Type 0} → Command → Points → List ℕ → Result X Y → Points → List ℕ → Type 0
-Obeyed c ps out r qs new = OnOk r ((qs ≡ after c ps) × (new ≡ out ++ printed c ps))
+-- a command that finds memory leaves the set that it should, and adds to what is printed what it should
+abbrev pub Obeyed : {X Y : Type 0} → Command → Session → Result X Y → Session → Type 0
+Obeyed c old r new = OnOk r ((new.set ≡ after c old.set) × (string_bytes new.out ≡ string_bytes old.out ++ printed c old.set))

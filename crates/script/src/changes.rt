@@ -1,62 +1,40 @@
-// Commands that change the set.
-ghost use Rattle.store.specs.Residuals.{points_of};
+// Commands that change the set, each with its reply.
 ghost use Rattle.script.specs.Replies.{Obeyed};
 
-use crate::text::{put_ok, put_refusal};
+use crate::session::Session;
 use kinds::{Kind, Small};
 use lines::Command;
 use plain::{Key, Point};
-use std::alloc::{AllocError, Global};
-use store::{Failure, Residuals};
+use std::alloc::AllocError;
+use store::Failure;
 
-pub fn insert(
-    heap: Global,
-    set: &mut Residuals,
-    epoch: u64,
-    number: u32,
-    pattern: u32,
-    out: &mut Vec<u8>,
-) -> Result<(), AllocError>
-    ensures { Obeyed (Command.Insert epoch number pattern) (points_of set.old) out.old.items result (points_of set.new) out.new.items }
-{
-    let key = Key { at: epoch, number };
-    match set.insert(Point {
-        key,
-        weight: Small::recall(pattern),
-    }) {
-        Ok(()) => put_ok(out),
-        Err(Failure::Refused(refusal)) => put_refusal(heap, out, refusal),
-        Err(Failure::Memory) => Err(AllocError),
+impl Session {
+    pub fn insert(&mut self, key: Key<u64>, pattern: u32) -> Result<(), AllocError>
+        ensures { Obeyed (Command.Insert key.at key.number pattern) self.old result self.new }
+    {
+        let weight = Small::recall(pattern);
+        match self.set.insert(Point { key, weight }) {
+            Ok(()) => writeln!(self.out, "ok"),
+            Err(Failure::Refused(refusal)) => self.refuse(refusal),
+            Err(Failure::Memory(failed)) => Err(failed),
+        }
     }
-}
 
-pub fn change(
-    heap: Global,
-    set: &mut Residuals,
-    epoch: u64,
-    number: u32,
-    pattern: u32,
-    out: &mut Vec<u8>,
-) -> Result<(), AllocError>
-    ensures { Obeyed (Command.Change epoch number pattern) (points_of set.old) out.old.items result (points_of set.new) out.new.items }
-{
-    match set.change(Key { at: epoch, number }, Small::recall(pattern)) {
-        Ok(()) => put_ok(out),
-        Err(refusal) => put_refusal(heap, out, refusal),
+    pub fn change(&mut self, key: Key<u64>, pattern: u32) -> Result<(), AllocError>
+        ensures { Obeyed (Command.Change key.at key.number pattern) self.old result self.new }
+    {
+        match self.set.change(key, Small::recall(pattern)) {
+            Ok(()) => writeln!(self.out, "ok"),
+            Err(refusal) => self.refuse(refusal),
+        }
     }
-}
 
-pub fn delete(
-    heap: Global,
-    set: &mut Residuals,
-    epoch: u64,
-    number: u32,
-    out: &mut Vec<u8>,
-) -> Result<(), AllocError>
-    ensures { Obeyed (Command.Delete epoch number) (points_of set.old) out.old.items result (points_of set.new) out.new.items }
-{
-    match set.delete(Key { at: epoch, number }) {
-        Ok(()) => put_ok(out),
-        Err(refusal) => put_refusal(heap, out, refusal),
+    pub fn delete(&mut self, key: Key<u64>) -> Result<(), AllocError>
+        ensures { Obeyed (Command.Delete key.at key.number) self.old result self.new }
+    {
+        match self.set.delete(key) {
+            Ok(()) => writeln!(self.out, "ok"),
+            Err(refusal) => self.refuse(refusal),
+        }
     }
 }

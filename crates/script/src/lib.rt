@@ -4,9 +4,9 @@
 mod changes;
 mod commands;
 mod lists;
-mod pattern;
 mod queries;
 mod runs;
+mod session;
 mod text;
 mod theorems;
 

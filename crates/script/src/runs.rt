@@ -1,14 +1,11 @@
 // A script, line by line.
-ghost use Rattle.std.specs.Prelude.{◌≡◌, ℕ, ◌<◌, ◌≤◌, List, [], ◌++◌, length, IfOk, OnOk, ◌≢◌, slice_index};
-ghost use Rattle.store.specs.Residuals.{points_of};
+ghost use Rattle.std.specs.Prelude.{◌≡◌, ℕ, ◌<◌, ◌≤◌, List, ◌++◌, length, IfOk, OnOk, ◌≢◌, slice_index, string_bytes};
 ghost use Rattle.script.specs.Reports.{Reply, Lines, Report, newline};
 
-use crate::commands::obey;
-use crate::text::put_refusal;
+use crate::session::Session;
 use lines::parse;
 use refusals::Refusal;
 use std::alloc::{AllocError, Global};
-use store::Residuals;
 
 const MOST_BYTES: usize = 60_000;
 
@@ -16,30 +13,42 @@ const MOST_BYTES: usize = 60_000;
 pub fn report(heap: Global, script: &[u8]) -> Result<Vec<u8>, AllocError>
     ensures { IfOk result (λ v. Report script.now v.items) }
 {
-    let mut out = Vec::new(heap);
+    let mut session = Session::new(heap);
     if script.len() > MOST_BYTES {
-        put_refusal(heap, &mut out, Refusal::Unreadable)?;
+        session.refuse(Refusal::Unreadable)?;
     } else {
-        run(heap, script, &mut out)?;
+        session.run(script)?;
     }
-    Ok(out)
+    Ok(session.out.into_bytes())
 }
 
-fn run(heap: Global, script: &[u8], out: &mut Vec<u8>) -> Result<(), AllocError>
-    ensures { OnOk result ((os : List ℕ) × Lines [] script.now os × (out.new.items ≡ out.old.items ++ os)) }
-{
-    let mut set = Residuals::new(heap);
-    let mut rest = script;
-    while rest.len() > 0 {
-        let n = line_len(rest);
-        reply(heap, &mut set, &rest[0..n], out)?;
-        rest = if n < rest.len() {
-            &rest[n + 1..]
-        } else {
-            &rest[n..]
-        };
+impl Session {
+    fn run(&mut self, script: &[u8]) -> Result<(), AllocError>
+        ensures { OnOk result ((os : List ℕ) × Lines self.old.set script.now os × (string_bytes self.new.out ≡ string_bytes self.old.out ++ os)) }
+    {
+        let mut rest = script;
+        while rest.len() > 0 {
+            let n = line_len(rest);
+            self.reply(&rest[..n])?;
+            rest = if n < rest.len() {
+                &rest[n + 1..]
+            } else {
+                &rest[n..]
+            };
+        }
+        Ok(())
     }
-    Ok(())
+
+    // Runs one line.
+    #[tactic(auto, using(crate::proofs::Running::replied_said, crate::proofs::Running::replied_unread))]
+    fn reply(&mut self, line: &[u8]) -> Result<(), AllocError>
+        ensures { OnOk result ((o : List ℕ) × Reply line.now self.old.set o self.new.set × (string_bytes self.new.out ≡ string_bytes self.old.out ++ o)) }
+    {
+        match parse(line) {
+            Some(command) => self.obey(command),
+            None => self.refuse(Refusal::Unreadable),
+        }
+    }
 }
 
 // How many bytes stand before the first newline.
@@ -48,26 +57,5 @@ fn line_len(s: &[u8]) -> usize
     ensures before { (k : ℕ) → k < result → slice_index s.now k ≢ newline }
     ensures found { result < length s.now → slice_index s.now result ≡ newline }
 {
-    for (i, b) in s.iter().enumerate() {
-        if *b == b'\n' {
-            return i;
-        }
-    }
-    s.len()
-}
-
-// Runs one line.
-fn reply(
-    heap: Global,
-    set: &mut Residuals,
-    line: &[u8],
-    out: &mut Vec<u8>,
-) -> Result<(), AllocError>
-    ensures { OnOk result ((o : List ℕ) × Reply line.now (points_of set.old) o (points_of set.new) × (out.new.items ≡ out.old.items ++ o)) }
-{
-    match parse(line) {
-        Some(command) => obey(heap, set, command, out)?,
-        None => put_refusal(heap, out, Refusal::Unreadable)?,
-    }
-    Ok(())
+    s.iter().position(|b| *b == b'\n').unwrap_or(s.len())
 }
