@@ -1,9 +1,10 @@
 // The fields of each command.
-ghost use Rattle.std.specs.Prelude.{◌≡◌, ℕ, ◌<◌, List, ◌∷◌, ◌++◌, length, MatchOption, ◌≢◌, slice_index};
+ghost use Rattle.std.specs.Prelude.{ℕ, List, MatchOption};
 ghost use Rattle.lines.specs.Digits.{Decimal};
 ghost use Rattle.lines.specs.Grammar.{Head, Then, Key, Point, Window, Listing, Floor};
 
 use crate::digits::{decimal, pattern};
+use crate::split::split_once;
 
 const TOP_EPOCH: u64 = u64::MAX;
 
@@ -75,15 +76,7 @@ fn heads(s: &[u8], top: u64, next: u64) -> Option<(u64, u64, &[u8])>
 fn head(s: &[u8], top: u64) -> Option<(u64, &[u8])>
     ensures { MatchOption result ((n : ℕ) (y : List ℕ) → Head top n y s.now → ⊥) (λ p. Head top p.0 p.1.now s.now) }
 {
-    let (x, y) = field(s)?;
+    let (x, y) = split_once(s, b' ')?;
     let n = decimal(x, top)?;
     Some((n, y))
-}
-
-// What stands before the first blank, and what follows it.
-fn field(s: &[u8]) -> Option<(&[u8], &[u8])>
-    ensures { MatchOption result ((k : ℕ) → k < length s.now → slice_index s.now k ≢ 32) (λ p. ((k : ℕ) → k < length p.0.now → slice_index p.0.now k ≢ 32) × (s.now ≡ p.0.now ++ 32 ∷ p.1.now)) }
-{
-    let i = s.iter().position(|b| *b == b' ')?;
-    Some((&s[..i], &s[i + 1..]))
 }

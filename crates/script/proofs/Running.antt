@@ -1,6 +1,6 @@
 -- A script, line by line.
-use Rattle.std.proofs.Common.{◌≡◌, ℕ, ◌+◌, ◌-◌, ◌<◌, ◌≤◌, List, [], ◌∷◌, ◌++◌, length, get_or, take, drop, Ok, Err, Result, OnOk, string_bytes, sym, refl, ap, ◌∙◌, subst, append_assoc, append-nil, arith, length-append, length-drop, take-append-drop, length-take, get_or-take}
-use Rattle.std.proofs.lemmas.List.{drop_more, take_rest, take_all}
+use Rattle.std.proofs.Common.{◌≡◌, ℕ, ◌<◌, List, [], ◌∷◌, ◌++◌, length, Ok, Err, Result, OnOk, string_bytes, sym, ap, ◌∙◌, subst, append_assoc, append-nil}
+use Rattle.std.proofs.lemmas.List.{nil_from_length}
 use Rattle.refusals.specs.declared.Refusal.TheVariants.{Unreadable}
 use Rattle.lines.specs.declared.command.Command.{Command}
 use Rattle.lines.specs.Grammar.{Says}
@@ -19,31 +19,26 @@ pub replied_unread : {X Y : Type 0} (l : List ℕ) (old new : Session) (r : Resu
 replied_unread l old new (Ok x) did h = (_, subst (Reply l old.set _) (sym did.0) (unread h), did.1)
 replied_unread l old new (Err e) did h = did
 
--- no newline stands among the first n bytes
-abbrev Before : List ℕ → ℕ → Type 0
-Before s n = (k : ℕ) → k < n → get_or s k 0 ≡ 10 → ⊥
+-- whatever the rest prints from here, the script prints after what was printed so far
+pub record Leaves (first : Points) (script before : List ℕ) (ps : Points) (rest now : List ℕ) : Type 0 where
+  pub done : List ℕ
+  pub printed : now ≡ before ++ done
+  pub goes_on : (os : List ℕ) → Lines ps rest os → Lines first script (done ++ os)
 
-one_line : (s : List ℕ) (n : ℕ) → Before s n → OneLine (take n s)
-one_line s n h k lt e = let b : k < n = omega (arith, length-take n s) in h k b (sym (get_or-take n s k 0 b) ∙ e)
+-- what is printed after a line is printed after what came before it
+join : (a b c x y : List ℕ) → b ≡ a ++ x → c ≡ b ++ y → c ≡ a ++ (x ++ y)
+join a b c x y p q = q ∙ ap (λ l. l ++ y) p ∙ append_assoc a x y
 
-pub nothing_left : (ps : Points) (s os : List ℕ) → Lines ps s os → length s ≡ 0 → os ≡ []
-nothing_left ps s os (none qs) e = refl
-nothing_left ps s os (line qs rs l rest o xs a b c) e = absurd (omega (arith, e, length-append l (10 ∷ rest)))
-nothing_left ps s os (last qs rs l o a some b) e = absurd (omega arith)
+module _ (first : Points) (script before : List ℕ) (ps : Points) (rest now : List ℕ) (h : Leaves first script before ps rest now) where
+  pub line_run : (qs : Points) (l others new : List ℕ) → OneLine l → rest ≡ l ++ (10 ∷ others) → (o : List ℕ) × Reply l ps o qs × (new ≡ now ++ o) → Leaves first script before qs others new
+  line_run qs l others new one cut r = record {
+    done = h.done ++ r.0;
+    printed = join before now new h.done r.0 h.printed r.2;
+    goes_on = λ os more. subst (Lines first script) (sym (append_assoc h.done r.0 os)) (h.goes_on (r.0 ++ os) (subst (λ s. Lines ps s (r.0 ++ os)) (sym cut) (line ps qs l others r.0 os one r.1 more)));
+  }
 
--- the line of n bytes at the front of s was run on ps, and what is left of s prints after it
-module _ (script s done o : List ℕ) (first ps qs : Points) (n : ℕ) (before : Before s n) (answer : Reply (take n s) ps o qs) (inv : (os : List ℕ) → Lines ps s os → Lines first script (done ++ os)) where
-  pub next-line : (os : List ℕ) → n < length s → get_or s n 0 ≡ 10 → Lines qs (take (length s - (n + 1)) (drop (n + 1) s)) os → Lines first script ((done ++ o) ++ os)
-  next-line os lt e h =
-      let rest = subst (λ l. Lines qs l os) (take_rest s (n + 1)) h in
-      let cut : take n s ++ (10 ∷ drop (n + 1) s) ≡ s = ap (λ l. take n s ++ l) (sym (drop_more s n 0 lt ∙ ap (λ x. x ∷ drop (n + 1) s) e)) ∙ take-append-drop n s in
-      let more = inv (o ++ os) (subst (λ l. Lines ps l (o ++ os)) cut (line ps qs (take n s) (drop (n + 1) s) o os (one_line s n before) answer rest)) in
-      subst (Lines first script) (sym (append_assoc done o os)) more
+  pub last_run : (qs : Points) (new : List ℕ) → OneLine rest → 0 < length rest → (o : List ℕ) × Reply rest ps o qs × (new ≡ now ++ o) → (os : List ℕ) × Lines first script os × (new ≡ before ++ os)
+  last_run qs new one some r = (h.done ++ r.0, h.goes_on r.0 (last ps qs rest r.0 one some r.1), join before now new h.done r.0 h.printed r.2)
 
-  pub last_line : (os : List ℕ) → 0 < length s → length s ≤ n → Lines qs (take (length s - n) (drop n s)) os → Lines first script ((done ++ o) ++ os)
-  last_line os some ge h =
-      let empty : length (take (length s - n) (drop n s)) ≡ 0 = simp (length-take, length-drop) (omega arith) in
-      let nothing = nothing_left qs _ os h empty in
-      let all = take_all n s ge in
-      let end = inv o (last ps qs s o (subst OneLine all (one_line s n before)) some (subst (λ l. Reply l ps o qs) all answer)) in
-      subst (Lines first script) (sym (append-nil (done ++ o)) ∙ ap (λ l. (done ++ o) ++ l) (sym nothing)) end
+  pub all_run : length rest ≡ 0 → (os : List ℕ) × Lines first script os × (now ≡ before ++ os)
+  all_run e = (h.done, subst (Lines first script) (append-nil h.done) (h.goes_on [] (subst (λ s. Lines ps s []) (sym (nil_from_length rest e)) (none ps))), h.printed)

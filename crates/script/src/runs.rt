@@ -1,9 +1,9 @@
 // A script, line by line.
-ghost use Rattle.std.specs.Prelude.{◌≡◌, ℕ, ◌<◌, ◌≤◌, List, ◌++◌, length, IfOk, OnOk, ◌≢◌, slice_index, string_bytes};
-ghost use Rattle.script.specs.Reports.{Reply, Lines, Report, newline};
+ghost use Rattle.std.specs.Prelude.{◌≡◌, ℕ, List, ◌++◌, IfOk, OnOk, string_bytes};
+ghost use Rattle.script.specs.Reports.{Reply, Lines, Report};
 
 use crate::session::Session;
-use lines::parse;
+use lines::{parse, split_once};
 use refusals::Refusal;
 use std::alloc::{AllocError, Global};
 
@@ -27,14 +27,12 @@ impl Session {
         ensures { OnOk result ((os : List ℕ) × Lines self.old.set script.now os × (string_bytes self.new.out ≡ string_bytes self.old.out ++ os)) }
     {
         let mut rest = script;
-        while rest.len() > 0 {
-            let n = line_len(rest);
-            self.reply(&rest[..n])?;
-            rest = if n < rest.len() {
-                &rest[n + 1..]
-            } else {
-                &rest[n..]
-            };
+        while let Some((line, others)) = split_once(rest, b'\n') {
+            self.reply(line)?;
+            rest = others;
+        }
+        if !rest.is_empty() {
+            self.reply(rest)?;
         }
         Ok(())
     }
@@ -49,13 +47,4 @@ impl Session {
             None => self.refuse(Refusal::Unreadable),
         }
     }
-}
-
-// How many bytes stand before the first newline.
-fn line_len(s: &[u8]) -> usize
-    ensures within { result ≤ length s.now }
-    ensures before { (k : ℕ) → k < result → slice_index s.now k ≢ newline }
-    ensures found { result < length s.now → slice_index s.now result ≡ newline }
-{
-    s.iter().position(|b| *b == b'\n').unwrap_or(s.len())
 }
