@@ -43,8 +43,8 @@ pub then-rest : (s : List ℕ) (a b m n : ℕ) (y : List ℕ) (Q : List ℕ → 
 then-rest s a b m n y Q h t = subst Q (sym (head-once s a b m n y t.0 h t.1).1) t.2
 
 -- two fields before a blank, and what follows
-pub heads-of : (a b m n : ℕ) (Q : List ℕ → Type 0) (s : List ℕ) (h : Then a m (Then b n Q) s) → Then a m (Head b n h.2.0) s
-heads-of a b m n Q s h = (h.0, h.1, h.2.1)
+pub heads_of : (a b m n : ℕ) (Q : List ℕ → Type 0) (s : List ℕ) (h : Then a m (Then b n Q) s) → Then a m (Head b n h.2.0) s
+heads_of a b m n Q s h = (h.0, h.1, h.2.1)
 
-pub heads-rest : (s : List ℕ) (a b k l m n : ℕ) (y : List ℕ) (Q : List ℕ → Type 0) → Then a k (Head b l y) s → Then a m (Then b n Q) s → Q y
-heads-rest s a b k l m n y Q t h = then-rest t.0 b b l n y Q t.2 (then-rest s a a k m t.0 (Then b n Q) t.1 h)
+pub heads_rest : (s : List ℕ) (a b k l m n : ℕ) (y : List ℕ) (Q : List ℕ → Type 0) → Then a k (Head b l y) s → Then a m (Then b n Q) s → Q y
+heads_rest s a b k l m n y Q t h = then-rest t.0 b b l n y Q t.2 (then-rest s a a k m t.0 (Then b n Q) t.1 h)

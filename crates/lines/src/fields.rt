@@ -1,5 +1,6 @@
 // The fields of each command.
 ghost use Rattle.std.specs.Prelude.{ℕ, List, MatchOption};
+ghost use Rattle.lines.specs.Limits.{most_places};
 ghost use Rattle.lines.specs.Digits.{Decimal};
 ghost use Rattle.lines.specs.Grammar.{Head, Then, Key, Point, Window, Listing, Floor};
 
@@ -41,8 +42,15 @@ pub fn listing(s: &[u8]) -> Option<(u64, u64, u8)>
     ensures { MatchOption result ((l u k : ℕ) → Listing l u k s.now → ⊥) (λ t. Listing t.0 t.1 t.2 s.now) }
 {
     let (l, u, last) = heads(s, TOP_EPOCH, TOP_EPOCH)?;
-    let k = decimal(last, MOST_PLACES)?;
-    Some((l, u, k as u8))
+    let k = places(last)?;
+    Some((l, u, k))
+}
+
+fn places(s: &[u8]) -> Option<u8>
+    ensures { MatchOption result ((k : ℕ) → Decimal most_places k s.now → ⊥) (λ k. Decimal most_places k s.now) }
+{
+    let k = decimal(s, MOST_PLACES)?;
+    Some(k as u8)
 }
 
 // A lower and an upper bound, and a threshold.

@@ -23,6 +23,7 @@ pub fn report(heap: Global, script: &[u8]) -> Result<Vec<u8>, AllocError>
 }
 
 impl Session {
+    #[tactic(auto, using(crate::proofs::Running::line_run))]
     fn run(&mut self, script: &[u8]) -> Result<(), AllocError>
         ensures { OnOk result ((os : List ℕ) × Lines self.old.set script.now os × (string_bytes self.new.out ≡ string_bytes self.old.out ++ os)) }
     {

@@ -1,8 +1,8 @@
-use Rattle.lines.proofs.Cuts.{heads-of, heads-rest}
+use Rattle.lines.proofs.Cuts.{heads_of, heads_rest}
 use Rattle.lines.proofs.fields.floor.Goals as goal
 
 pub returns-in_err-l : goal.returns-in_err-l
-returns-in_err-l c = rw c.from_residual.ensures (λ a b d h. c.in_err-l.ensures a b h.2.0 (heads-of _ _ _ _ _ _ h))
+returns-in_err-l c = rw c.from_residual.ensures (λ a b d h. c.in_err-l.ensures a b h.2.0 (heads_of _ _ _ _ _ _ h))
 
 pub returns-in_err-p : goal.returns-in_err-p
-returns-in_err-p c = rw c.from_residual-in_err-p.ensures (λ a b d h. c.in_err-p.ensures d (heads-rest _ _ _ _ _ _ _ _ _ c.in_ok-l.ensures h))
+returns-in_err-p c = rw c.from_residual-in_err-p.ensures (λ a b d h. c.in_err-p.ensures d (heads_rest _ _ _ _ _ _ _ _ _ c.in_ok-l.ensures h))

@@ -1,9 +1,6 @@
 use Rattle.std.proofs.Common.{rules}
-use Rattle.script.proofs.Running.{line_run, last_run, all_run}
+use Rattle.script.proofs.Running.{last_run, all_run}
 use Rattle.script.proofs.session.Session.run.Goals as goal
-
-pub loop-line-preserved : goal.loop-line-preserved
-loop-line-preserved c = line_run _ _ _ _ _ _ c.loop-line.invariant _ _ _ _ c.in-Some.ensures.0 c.in-Some.ensures.1 c.in_ok-reply.ensures
 
 pub returns-in_ok-reply-2 : goal.returns-in_ok-reply-2
 returns-in_ok-reply-2 c = last_run _ _ _ _ _ _ c.loop-line.invariant _ _ c.in_default.ensures (search rules) c.in_ok-reply-2.ensures
