@@ -1,4 +1,4 @@
-// The fields of each command.
+// The fields of each command. `point`, `listing` and `floor` differ in the types of their last two fields; what they share is `heads`.
 ghost use Rattle.std.specs.Prelude.{ℕ, List, MatchOption};
 ghost use Rattle.lines.specs.Limits.{most_places};
 ghost use Rattle.lines.specs.Digits.{Decimal};

@@ -32,6 +32,7 @@ impl Session {
         ensures { Obeyed (Command.First lo hi places) self.old result self.new }
     {
         let k = usize::from(places);
+        // Places for each number that `places` can be; a heap list would need memory for a reply.
         let mut list = [Point {
             key: Key { at: 0, number: 0 },
             weight: 0.0,

@@ -4,19 +4,10 @@ use std::alloc::{AllocError, Global};
 use std::test::Fail;
 
 // Inserts at the epochs 0 to 255.
-fn full(heap: Global) -> Result<Vec<u8>, AllocError> {
-    let mut text = Vec::new(heap);
+fn full(heap: Global) -> Result<String, AllocError> {
+    let mut text = String::new(heap);
     for epoch in 0..256u64 {
-        let line = format!(in heap; "i {epoch} 1 3F800000\n")?;
-        text.extend_from_slice(line.as_bytes())?;
-    }
-    Ok(text)
-}
-
-fn oks(heap: Global) -> Result<Vec<u8>, AllocError> {
-    let mut text = Vec::new(heap);
-    for _ in 0..256u64 {
-        text.extend_from_slice(b"ok\n")?;
+        writeln!(text, "i {epoch} 1 3F800000")?;
     }
     Ok(text)
 }
@@ -25,10 +16,10 @@ fn oks(heap: Global) -> Result<Vec<u8>, AllocError> {
 #[test]
 fn room(rt: HostRuntime) -> Result<(), Fail> {
     let mut script = full(rt.alloc())?;
-    script.extend_from_slice(
-        b"i 256 1 3F800000\ni 0 1 3F800000\ni 0 1 FF800000\nd 7 1\ni 256 1 3F800000\ns 0 999\nr 0 999 3F800000\n",
+    script.push_str(
+        "i 256 1 3F800000\ni 0 1 3F800000\ni 0 1 FF800000\nd 7 1\ni 256 1 3F800000\ns 0 999\nr 0 999 3F800000\n",
     )?;
-    let mut want = oks(rt.alloc())?;
-    want.extend_from_slice(b"no 4\nno 3\nno 2\nok\nok\nsum 43800000 256\nrange 256\n")?;
-    gives(&rt, script.as_slice(), want.as_slice())
+    let mut want = "ok\n".repeat(rt.alloc(), 256)?;
+    want.push_str("no 4\nno 3\nno 2\nok\nok\nsum 43800000 256\nrange 256\n")?;
+    gives(&rt, script.as_bytes(), want.as_bytes())
 }

@@ -4,25 +4,21 @@ use std::alloc::{AllocError, Global};
 use std::test::Fail;
 
 // A readable line, and an unreadable one of so many bytes.
-fn padded(heap: Global, bytes: usize) -> Result<Vec<u8>, AllocError> {
-    let mut text = Vec::new(heap);
-    text.extend_from_slice(b"i 1 1 3F800000\n")?;
-    for _ in 0..bytes {
-        text.push(b'x')?;
-    }
-    Ok(text)
+fn padded(heap: Global, bytes: usize) -> Result<String, AllocError> {
+    let x = "x".repeat(heap, bytes)?;
+    format!(in heap; "i 1 1 3F800000\n{x}")
 }
 
 #[test]
 fn longest(rt: HostRuntime) -> Result<(), Fail> {
     let script = padded(rt.alloc(), 59_985)?;
     assert!(rt; script.len() == 60_000);
-    gives(&rt, script.as_slice(), b"ok\nno 10\n")
+    gives(&rt, script.as_bytes(), b"ok\nno 10\n")
 }
 
 #[test]
 fn too_long(rt: HostRuntime) -> Result<(), Fail> {
     let script = padded(rt.alloc(), 59_986)?;
     assert!(rt; script.len() == 60_001);
-    gives(&rt, script.as_slice(), b"no 10\n")
+    gives(&rt, script.as_bytes(), b"no 10\n")
 }

@@ -11,6 +11,7 @@ use kinds::Small;
 use plain::{Point, count_matches, list_first, sum_window};
 use refusals::Refusal;
 
+// The bounds of a window are two parameters, as in the functions of the plain set that take them on.
 impl Residuals {
     // The sum of the points in a window, from the earliest key on, and how many they are.
     pub fn sum(&self, lo: u64, hi: u64) -> Result<(f32, usize), Refusal>

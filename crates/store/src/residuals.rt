@@ -15,6 +15,7 @@ use refusals::Refusal;
 use std::alloc::Global;
 use std::marker::Model;
 
+// In a vector and no map: the functions of the plain set read a slice.
 #[derive(Drop)]
 pub struct Residuals {
     points: Vec<Point<u64, f32>>,
