@@ -3,7 +3,7 @@ ghost use Rattle.script.specs.Replies.{Obeyed};
 
 use crate::session::Session;
 use lines::Command;
-use plain::Key;
+use plain::{Key, Window};
 use std::alloc::AllocError;
 
 impl Session {
@@ -22,9 +22,9 @@ impl Session {
                 pattern,
             } => self.change(Key { at: epoch, number }, pattern),
             Command::Delete { epoch, number } => self.delete(Key { at: epoch, number }),
-            Command::Sum { lo, hi } => self.sum(lo, hi),
-            Command::First { lo, hi, places } => self.first(lo, hi, places),
-            Command::Range { lo, hi, threshold } => self.range(lo, hi, threshold),
+            Command::Sum { lo, hi } => self.sum(Window::new(lo, hi)),
+            Command::First { lo, hi, places } => self.first(Window::new(lo, hi), places),
+            Command::Range { lo, hi, threshold } => self.range(Window::new(lo, hi), threshold),
         }
     }
 }

@@ -12,14 +12,14 @@ use crate::session::Session;
 use crate::text::Pattern;
 use kinds::{Kind, Small};
 use lines::Command;
-use plain::{Key, Point};
+use plain::{Key, Point, Window};
 use std::alloc::AllocError;
 
 impl Session {
-    pub fn sum(&mut self, lo: u64, hi: u64) -> Result<(), AllocError>
-        ensures { Obeyed (Command.Sum lo hi) self.old result self.new }
+    pub fn sum(&mut self, bounds: Window<u64>) -> Result<(), AllocError>
+        ensures { Obeyed (Command.Sum bounds.lower bounds.upper) self.old result self.new }
     {
-        match self.set.sum(lo, hi) {
+        match self.set.sum(bounds) {
             Ok((sum, count)) => {
                 let sum = Pattern(sum);
                 writeln!(self.out, "sum {sum} {count}")
@@ -28,8 +28,8 @@ impl Session {
         }
     }
 
-    pub fn first(&mut self, lo: u64, hi: u64, places: u8) -> Result<(), AllocError>
-        ensures { Obeyed (Command.First lo hi places) self.old result self.new }
+    pub fn first(&mut self, bounds: Window<u64>, places: u8) -> Result<(), AllocError>
+        ensures { Obeyed (Command.First bounds.lower bounds.upper places) self.old result self.new }
     {
         let k = usize::from(places);
         // Places for each number that `places` can be; a heap list would need memory for a reply.
@@ -37,23 +37,27 @@ impl Session {
             key: Key { at: 0, number: 0 },
             weight: 0.0,
         }; 256];
-        self.first_in(lo, hi, &mut list[..k])
+        self.first_in(bounds, &mut list[..k])
     }
 
     // As many points as the list has places.
-    fn first_in(&mut self, lo: u64, hi: u64, list: &mut [Point<u64, f32>]) -> Result<(), AllocError>
-        ensures { OnOk result ((self.new.set ≡ self.old.set) × (string_bytes self.new.out ≡ string_bytes self.old.out ++ told (frontier_refused small lo hi frontier self.old.set) (first_text (firsts small (length list.old) lo hi self.old.set)))) }
+    fn first_in(
+        &mut self,
+        bounds: Window<u64>,
+        list: &mut [Point<u64, f32>],
+    ) -> Result<(), AllocError>
+        ensures { OnOk result ((self.new.set ≡ self.old.set) × (string_bytes self.new.out ≡ string_bytes self.old.out ++ told (frontier_refused small bounds.lower bounds.upper frontier self.old.set) (first_text (firsts small (length list.old) bounds.lower bounds.upper self.old.set)))) }
     {
-        match self.set.first(lo, hi, list) {
+        match self.set.first(bounds, list) {
             Ok(n) => put_first(&mut self.out, &list[..n]),
             Err(refusal) => self.refuse(refusal),
         }
     }
 
-    pub fn range(&mut self, lo: u64, hi: u64, threshold: u32) -> Result<(), AllocError>
-        ensures { Obeyed (Command.Range lo hi threshold) self.old result self.new }
+    pub fn range(&mut self, bounds: Window<u64>, threshold: u32) -> Result<(), AllocError>
+        ensures { Obeyed (Command.Range bounds.lower bounds.upper threshold) self.old result self.new }
     {
-        match self.set.range(lo, hi, Small::recall(threshold)) {
+        match self.set.range(bounds, Small::recall(threshold)) {
             Ok(count) => writeln!(self.out, "range {count}"),
             Err(refusal) => self.refuse(refusal),
         }

@@ -4,16 +4,16 @@ ghost use Rattle.plain.specs.Refused.{range_refused, frontier_refused};
 ghost use Rattle.store.specs.Residuals.{room, Answered};
 
 use kinds::{Kind, Small};
-use plain::{Point, is_later};
+use plain::{Point, Window, is_later};
 use refusals::Refusal;
 
 // How many points there is room for, and how many places a frontier has.
 pub const ROOM: usize = 256;
 
-pub fn check_range(lo: u64, hi: u64, threshold: f32) -> Result<(), Refusal>
-    ensures { Answered (range_refused small lo hi threshold) tt result }
+pub fn check_range(bounds: Window<u64>, threshold: f32) -> Result<(), Refusal>
+    ensures { Answered (range_refused small bounds.lower bounds.upper threshold) tt result }
 {
-    if is_later::<Small>(lo, hi) {
+    if is_later::<Small>(bounds.lower, bounds.upper) {
         Err(Refusal::Reversed)
     } else if !Small::is_threshold(threshold) {
         Err(Refusal::Unfit)
@@ -22,10 +22,10 @@ pub fn check_range(lo: u64, hi: u64, threshold: f32) -> Result<(), Refusal>
     }
 }
 
-pub fn check_frontier(points: &[Point<u64, f32>], lo: u64, hi: u64) -> Result<(), Refusal>
-    ensures { Answered (frontier_refused small lo hi room points.now) tt result }
+pub fn check_frontier(points: &[Point<u64, f32>], bounds: Window<u64>) -> Result<(), Refusal>
+    ensures { Answered (frontier_refused small bounds.lower bounds.upper room points.now) tt result }
 {
-    if is_later::<Small>(lo, hi) {
+    if is_later::<Small>(bounds.lower, bounds.upper) {
         Err(Refusal::Reversed)
     } else if ROOM < points.len() {
         Err(Refusal::Frontier)
