@@ -4,8 +4,8 @@ use native.Mathlib.Nat.{pow-zero}
 use Rattle.kinds.specs.Meaning.{Meaning}
 use Rattle.plain.specs.declared.point.Key.{Key}
 use Rattle.plain.specs.declared.point.Point.{Point}
-use Rattle.trees.specs.Tree.{Tree, Forest, gone, leaf, fork, none, more, count, size_all}
-use Rattle.trees.specs.Rules.{Degrees, LevelAll, DegreesAll, KeyedAll}
+use Rattle.trees.specs.Tree.{Forest, count, size_all}
+use Rattle.trees.specs.Rules.{LevelAll, KeyedAll}
 use Rattle.built.specs.Build.{parents, levels}
 use Rattle.built.specs.Build.{Laid as LaidOver}
 use Rattle.built.proofs.Leaves.{flat-degrees, leaves-level, leaves-keyed, leaves-size}
@@ -13,23 +13,12 @@ use Rattle.built.proofs.Parents.{parents-laid}
 use Rattle.built.proofs.Steps.{levels-step}
 use Rattle.table.specs.declared.node.Node.{Node}
 use Rattle.table.specs.Reading.{inside, Sounds}
+use Rattle.tree.proofs.Degrees.{all-degrees-weaker}
 use Rattle.build.specs.Leaves.{leaves_at, laid_at, Leaves}
 use Rattle.build.specs.Stages.{trees_in, tree_over, Raising}
 use Rattle.build.proofs.Rows.{occurs-inside, same_count}
 use Rattle.build.proofs.Leaves.{laid-length, laid-uses}
 use Rattle.build.proofs.Turns.{some_key, count-trees}
-
-module _ {C W : Type 0} where
-  mutual
-    -- forks with 2 to 4 children have 1 to 4
-    degrees-less : (t : Tree C W) → Degrees t 2 4 → Degrees t 1 4
-    degrees-less (gone p) d = tt
-    degrees-less (leaf p x o) d = tt
-    degrees-less (fork p k o ts) d = (omega (arith, d.0), d.1, all-degrees-less ts d.2)
-
-    all-degrees-less : (ts : Forest C W) → DegreesAll ts 2 4 → DegreesAll ts 1 4
-    all-degrees-less none d = tt
-    all-degrees-less (more t ts) d = (degrees-less t d.0, all-degrees-less ts d.1)
 
 module _ {C W R : Type 0} (m : Meaning C W R) where
   -- ---- the leaves
@@ -61,7 +50,7 @@ module _ {C W R : Type 0} (m : Meaning C W R) where
     ts = trees_in m b h left first
 
     pub raising-sounds : Sounds p h ts
-    raising-sounds = record { level = on.level; degrees = all-degrees-less ts on.degrees; apart = λ q. omega (arith, on.places q) }
+    raising-sounds = record { level = on.level; degrees = all-degrees-weaker ts 2 1 4 (omega arith) on.degrees; apart = λ q. omega (arith, on.places q) }
 
     module _ (c : List (Node C R)) (len : length c ≡ length b) (made : ℕ) (laid : (k : Key C) → trees_in m c (suc h) made p ≡ parents m left h p k ts) where
       abbrev vs : Forest C W

@@ -50,6 +50,7 @@ pub fn build<K: Kind>(nodes: &mut [Node<K::Coordinate, K::Recorded>], count: u16
         count,
         height: 0,
     };
+    // Until one tree is left: no index is counted.
     while level.count > 1 {
         level = lay_level::<K>(nodes, level);
     }

@@ -21,7 +21,7 @@ use Rattle.tree.specs.Places.{pick_at}
 use Rattle.tree.specs.Standing.{points_of, Ruled}
 use Rattle.tree.proofs.Heights.{up}
 use Rattle.tree.proofs.Picks.{pick-tree}
-use Rattle.change.proofs.Stands.{forest-some}
+use Rattle.tree.proofs.Standings.{one-tree}
 
 -- ---- in the tree as in the set
 module _ {C W R : Type 0} (m : Meaning C W R) (first : First m) (second : Second m) where
@@ -45,10 +45,10 @@ module _ {C W R : Type 0} (m : Meaning C W R) (first : First m) (second : Second
     pub find-some : (hd.count ≡ 0 → ⊥) → r ≡ found m hd.top.height k (tree_at m ns hd.top.height hd.top.root) → Ruled m ns hd → r ≡ weight_at m k (points_of m ns hd)
     find-some pos e ruled =
         let t = tree_at m ns hd.top.height hd.top.root in
-        let one = subst (Whole m hd.top.height) (forest-some m ns hd pos) ruled in
+        let one = subst (Whole m hd.top.height) (one-tree m ns hd pos) ruled in
         e ∙ found-weight hd.top.height k t (whole-sorted m hd.top.height t one)
         ∙ ap (weight_at m k) (sym (append-nil (points t)))
-        ∙ ap (λ f. weight_at m k (points_all f)) (sym (forest-some m ns hd pos))
+        ∙ ap (λ f. weight_at m k (points_all f)) (sym (one-tree m ns hd pos))
 
 -- ---- in the table as in the tree
 module _ {C W R : Type 0} (m : Meaning C W R) (a : List (Node C R)) (k : Key C) (H at : ℕ) (n : Node C R) (is : slice_get a at ≡ Some n) where

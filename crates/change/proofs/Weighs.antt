@@ -19,7 +19,7 @@ use Rattle.table.proofs.Steps.{inside_one}
 use Rattle.tree.specs.Standing.{forest_of, points_of, Standing, Ruled}
 use Rattle.tree.proofs.Spared.{spares-kept}
 use Rattle.change.specs.Weighed.{reweighed}
-use Rattle.change.proofs.Stands.{forest-some}
+use Rattle.tree.proofs.Standings.{one-tree}
 
 module _ {C W R : Type 0} (m : Meaning C W R) where
   -- ---- one step and then another, where the first leaves the nodes where they are
@@ -46,15 +46,15 @@ module _ {C W R : Type 0} (m : Meaning C W R) where
       (bec : Became m a b hd.top.height hd.top.root (reweighed m hd.top.height k w (tree_at m a hd.top.height hd.top.root))) where
     pub changed-forest : forest_of m b hd ≡ with_weight m hd.top.height k w (forest_of m a hd)
     changed-forest =
-        forest-some m b hd pos
+        one-tree m b hd pos
         ∙ ap (λ t. more t none) bec.tree
-        ∙ ap (with_weight m hd.top.height k w) (sym (forest-some m a hd pos))
+        ∙ ap (with_weight m hd.top.height k w) (sym (one-tree m a hd pos))
 
     -- no free place has changed
     changed-spares : spares b hd.free ≡ spares a hd.free
     changed-spares =
         spares-kept a b hd.free len
-        (λ q o. bec.frame q (omega (arith, s.places q, inside_one (length a) q, ap (λ f. uses_all f q) (forest-some m a hd pos))))
+        (λ q o. bec.frame q (omega (arith, s.places q, inside_one (length a) q, ap (λ f. uses_all f q) (one-tree m a hd pos))))
 
     pub changed-standing : Standing m b hd
     changed-standing =

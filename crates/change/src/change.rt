@@ -13,7 +13,8 @@ use table::node::{Node, Stored};
 use table::subtree::Subtree;
 use tree::keep::{push, take_out, weigh};
 
-// The point of a key and a weight, as a node stores it.
+// The point of a key and a weight, as a node stores it: a function and no `From`, as one caller needs
+// it.
 fn stored<C: Copy, R: Copy>(key: Key<C>, weight: R) -> Stored<C, R>
     ensures { result ≡ record { at = key.at; number = key.number; weight = weight } }
 {
@@ -25,6 +26,7 @@ fn stored<C: Copy, R: Copy>(key: Key<C>, weight: R) -> Stored<C, R>
 }
 
 // In one tree: the point of a key is taken out, its leaf gets the weight, and it is kept again.
+// `Sound` is a premise and no ghost field: it is a fact about the table lent beside the subtree.
 fn reweigh_below<K: Kind>(
     nodes: &mut [Node<K::Coordinate, K::Recorded>],
     tree: Subtree,
@@ -40,6 +42,7 @@ fn reweigh_below<K: Kind>(
 }
 
 // The point of a key gets another weight.
+// `Standing` is a premise and no ghost field: the table is lent beside its header.
 pub fn change<K: Kind>(
     nodes: &mut [Node<K::Coordinate, K::Recorded>],
     header: Header,

@@ -28,6 +28,7 @@ fn weight_if<K: Kind>(
 }
 
 // The weight at the leaf on the way to a key, if the leaf has that key.
+// `Sound` is a premise and no ghost field: it is a fact about the table lent beside the subtree.
 pub fn find_below<K: Kind>(
     nodes: &[Node<K::Coordinate, K::Recorded>],
     tree: Subtree,
@@ -49,6 +50,7 @@ pub fn find_below<K: Kind>(
 }
 
 // The weight of a key, if the key stands.
+// `Standing` is a premise and no ghost field: the table is lent beside its header.
 pub fn find<K: Kind>(
     nodes: &[Node<K::Coordinate, K::Recorded>],
     header: Header,

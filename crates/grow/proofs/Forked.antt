@@ -28,7 +28,8 @@ use Rattle.tree.specs.Places.{key_of_node, pick_at}
 use Rattle.tree.proofs.Spared.{spares-kept, all-inside}
 use Rattle.grow.specs.Grown.{Ready, Inserted, most, half}
 use Rattle.table.specs.Nodes.{over}
-use Rattle.grow.proofs.Readies.{all-degrees-weaker, ready-sound, root-within}
+use Rattle.tree.proofs.Degrees.{all-degrees-weaker}
+use Rattle.grow.proofs.Readies.{ready-sound, root-within}
 
 module _ {C W : Type 0} where
   pub keyed-nth : (ts : Forest C W) (i : ℕ) → KeyedAll ts → i < count ts → Keyed (nth_tree i ts)

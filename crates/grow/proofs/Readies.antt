@@ -1,9 +1,7 @@
 -- A tree that can take one leaf more.
-use Rattle.std.proofs.Common.{◌≡◌, ℕ, suc, ◌-◌, ◌<◌, ◌≤◌, List, ◌∷◌, length, ap, arith}
+use Rattle.std.proofs.Common.{◌≡◌, ℕ, suc, ◌-◌, ◌<◌, List, ◌∷◌, length, ap, arith}
 use Rattle.std.specs.List.{AllByRecursion}
 use Rattle.kinds.specs.Meaning.{Meaning}
-use Rattle.trees.specs.Tree.{Tree, Forest, gone, leaf, fork, none, more}
-use Rattle.trees.specs.Rules.{Degrees, DegreesAll}
 use Rattle.shapes.specs.Shape.{occurs}
 use Rattle.table.specs.declared.node.Node.{Node}
 use Rattle.table.specs.declared.free.Free.{Free}
@@ -11,20 +9,10 @@ use Rattle.table.specs.Spares.{spares}
 use Rattle.table.specs.Reading.{tree_at, Sound}
 use Rattle.table.proofs.Frames.{hit-here}
 use Rattle.table.proofs.Steps.{inside-lt, sound-within}
+use Rattle.tree.proofs.Degrees.{degrees-weaker}
 use Rattle.tree.proofs.Heights.{up}
 use Rattle.tree.proofs.Spared.{all-inside}
 use Rattle.grow.specs.Grown.{Ready}
-
--- fewer children at the least
-mutual
-  pub degrees-weaker : {C W : Type 0} (t : Tree C W) (a c b : ℕ) → c ≤ a → Degrees t a b → Degrees t c b
-  degrees-weaker (gone p) a c b le d = tt
-  degrees-weaker (leaf p x o) a c b le d = tt
-  degrees-weaker (fork p k o ts) a c b le (x, y, ds) = (omega arith, y, all-degrees-weaker ts a c b le ds)
-
-  pub all-degrees-weaker : {C W : Type 0} (ts : Forest C W) (a c b : ℕ) → c ≤ a → DegreesAll ts a b → DegreesAll ts c b
-  all-degrees-weaker none a c b le d = tt
-  all-degrees-weaker (more t ts) a c b le (x, ds) = (degrees-weaker t a c b le x, all-degrees-weaker ts a c b le ds)
 
 module _ {C W R : Type 0} {m : Meaning C W R} {a : List (Node C R)} {f : Free} where
   -- a height that is not 0

@@ -13,6 +13,7 @@ use Rattle.shapes.specs.Settles.{Whole}
 use Rattle.shapes.proofs.Counts.{points-least, wants-met}
 use Rattle.shapes.proofs.Grows.{with-point-changed}
 use Rattle.shapes.proofs.Adds.{with-point-whole}
+use Rattle.tree.proofs.Standings.{one-tree}
 use Rattle.table.specs.declared.node.Node.{Node}
 use Rattle.table.specs.declared.free.Free.{Free}
 use Rattle.table.specs.declared.header.Header.{Header}
@@ -55,18 +56,15 @@ module _ {C W R : Type 0} {m : Meaning C W R} {a : List (Node C R)} {hd : Header
   some-spare z = omega (arith, subst (λ g. wants g ≤ length qs) (empty z) met)
 
   -- ---- a tree
-  pub one-tree : (hd.count ≡ 0 → ⊥) → f ≡ more (tree_at m a hd.top.height hd.top.root) none
-  one-tree nz = cond-false (eqb hd.count 0) _ _ (ne_eqb hd.count 0 nz)
-
   module _ (nz : hd.count ≡ 0 → ⊥) where
     abbrev t : Tree C W
     t = tree_at m a hd.top.height hd.top.root
 
     holds : Holds hd.top.height (more t none)
-    holds = subst (Holds hd.top.height) (one-tree nz) s.holds
+    holds = subst (Holds hd.top.height) (one-tree m a hd nz) s.holds
 
     pub enough : suc (suc (full t most)) ≤ length qs
-    enough = subst (λ g. wants g ≤ length qs) (one-tree nz) met
+    enough = subst (λ g. wants g ≤ length qs) (one-tree m a hd nz) met
 
     pub ready : Ready m a hd.free hd.top.height hd.top.root
     ready = record {
@@ -74,7 +72,7 @@ module _ {C W R : Type 0} {m : Meaning C W R} {a : List (Node C R)} {hd : Header
       level = holds.fine.level.0;
       degrees = holds.fine.degrees.0;
       keyed = holds.fine.keyed.0;
-      apart = λ q. omega (arith, subst (λ g. uses_all g q + occurs q qs ≡ inside (length a) q) (one-tree nz) (s.places q));
+      apart = λ q. omega (arith, subst (λ g. uses_all g q + occurs q qs ≡ inside (length a) q) (one-tree m a hd nz) (s.places q));
       room = omega (arith, enough);
     }
 
@@ -82,7 +80,7 @@ module _ {C W R : Type 0} {m : Meaning C W R} {a : List (Node C R)} {hd : Header
     low = go (points-least most t hd.top.height holds.fine.level.0 holds.fine.degrees.0)
       where
         n : length (points t) ≡ hd.count
-        n = sym (s.counted ∙ ap (λ g. length (points_all g)) (one-tree nz) ∙ length-append (points t) [] ∙ omega arith)
+        n = sym (s.counted ∙ ap (λ g. length (points_all g)) (one-tree m a hd nz) ∙ length-append (points t) [] ∙ omega arith)
 
         go : 2 ^ hd.top.height ≤ length (points t) → hd.top.height < 255
         go p = bound hd.top.height hd.count (omega (arith, n)) (omega (arith, room, s.small))

@@ -66,6 +66,7 @@ fn extend<K: Kind>(
 }
 
 // Adds a point: the tree then holds it beside the others, and keeps it.
+// `Standing` is a premise and no ghost field: the table is lent beside its header.
 pub fn insert<K: Kind>(
     nodes: &mut [Node<K::Coordinate, K::Recorded>],
     header: &mut Header,

@@ -13,6 +13,9 @@ const TOP_NUMBER: u64 = 0xffff_ffff;
 
 const MOST_PLACES: u64 = 64;
 
+// The casts below lose nothing, as the check proves from these bounds; `try_from` would add a way to
+// fail that never comes.
+
 // An epoch, a number and a pattern.
 pub fn point(s: &[u8]) -> Option<(u64, u32, u32)>
     ensures { MatchOption result ((e n p : ℕ) → Point e n p s.now → ⊥) (λ t. Point t.0 t.1 t.2 s.now) }

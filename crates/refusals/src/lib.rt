@@ -32,6 +32,7 @@ pub enum Refusal {
 }
 
 impl Refusal {
+    // For callers that name no type: what `u8::from` gives.
     pub fn number(self) -> u8
         ensures { result ≡ number_of self }
     {

@@ -37,6 +37,7 @@ fn lower<K: Kind>(
 }
 
 // Removes the point of a key: it is not kept any more, and its leaf is gone.
+// `Standing` is a premise and no ghost field: the table is lent beside its header.
 pub fn remove<K: Kind>(
     nodes: &mut [Node<K::Coordinate, K::Recorded>],
     header: &mut Header,

@@ -1,4 +1,5 @@
-// A node of a table, and how it is read and written.
+// A node of a table, and how it is read and written. Nodes name each other by their places in the
+// table, a slice that the caller lends: nothing is allocated.
 ghost use Rattle.std.specs.Prelude.{◌≡◌, ◌<◌, length, Some, slice_set};
 ghost use Rattle.std.specs.List.{slice_get};
 ghost use Rattle.table.specs.Keys.{key_in};
@@ -82,12 +83,12 @@ pub fn read<C: Copy, R: Copy>(nodes: &[Node<C, R>], p: u16) -> Node<C, R>
     requires { p < length nodes.now }
     ensures { slice_get nodes.now p ≡ Some result }
 {
-    nodes[p as usize]
+    nodes[usize::from(p)]
 }
 
 pub fn write<C: Copy, R: Copy>(nodes: &mut [Node<C, R>], p: u16, node: Node<C, R>)
     requires { p < length nodes.old }
     ensures { nodes.new ≡ slice_set nodes.old p node }
 {
-    nodes[p as usize] = node;
+    nodes[usize::from(p)] = node;
 }

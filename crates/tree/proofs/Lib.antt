@@ -4,4 +4,5 @@ pub mod Pulls
 pub mod Pushes
 pub mod Settles
 pub mod Spared
+pub mod Degrees
 pub mod Standings

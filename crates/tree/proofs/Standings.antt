@@ -16,13 +16,16 @@ use Rattle.tree.specs.Theorems.{FewNodes, RulesHold}
 
 module _ {C W R : Type 0} (m : Meaning C W R) where
   -- with points there is one tree
-  one-tree : (ns : List (Node C R)) (hd : Header) → 0 < hd.count → forest_of m ns hd ≡ more (tree_at m ns hd.top.height hd.top.root) none
-  one-tree ns hd some = cond-false (eqb hd.count 0) _ _ (ne_eqb hd.count 0 (λ z. omega arith))
+  pub one-tree : (ns : List (Node C R)) (hd : Header) → (hd.count ≡ 0 → ⊥) → forest_of m ns hd ≡ more (tree_at m ns hd.top.height hd.top.root) none
+  one-tree ns hd nz = cond-false (eqb hd.count 0) _ _ (ne_eqb hd.count 0 nz)
+
+  some : (hd : Header) → 0 < hd.count → hd.count ≡ 0 → ⊥
+  some hd pos z = omega arith
 
   pub few-nodes : FewNodes m
-  few-nodes ns hd s some =
+  few-nodes ns hd s pos =
       let t = tree_at m ns hd.top.height hd.top.root in
-      let e = one-tree ns hd some in
+      let e = one-tree ns hd (some hd pos) in
       let holds = subst (Holds hd.top.height) e s.holds in
       let n : hd.count ≡ length (points t) + 0 = s.counted ∙ ap (λ f. length (points_all f)) e ∙ length-append (points t) [] in
       let z = ap size_all e in
@@ -30,6 +33,6 @@ module _ {C W R : Type 0} (m : Meaning C W R) where
 
   pub rules-held : First m → Second m → Coded C → Coded W → RulesHold m
   rules-held first second kc kw = record {
-    ruled_rules = λ ns hd some r. whole-rules m first second kc kw hd.top.height (tree_at m ns hd.top.height hd.top.root) (subst (Whole m hd.top.height) (one-tree ns hd some) r);
-    rules_ruled = λ ns hd some r. subst (Whole m hd.top.height) (sym (one-tree ns hd some)) (rules-whole m first second kc kw hd.top.height (tree_at m ns hd.top.height hd.top.root) r);
+    ruled_rules = λ ns hd pos r. whole-rules m first second kc kw hd.top.height (tree_at m ns hd.top.height hd.top.root) (subst (Whole m hd.top.height) (one-tree ns hd (some hd pos)) r);
+    rules_ruled = λ ns hd pos r. subst (Whole m hd.top.height) (sym (one-tree ns hd (some hd pos))) (rules-whole m first second kc kw hd.top.height (tree_at m ns hd.top.height hd.top.root) r);
   }

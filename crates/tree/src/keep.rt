@@ -1,4 +1,5 @@
-// How points that nodes keep move: down towards their leaves, and up where one has gone.
+// How points that nodes keep move: down towards their leaves, and up where one has gone. `Sound` is
+// asked of each call, and is no ghost field of `Subtree`: it is a fact about the table passed beside it.
 ghost use Rattle.std.specs.Prelude.{◌≡◌, length, if◌then◌else◌};
 ghost use Rattle.std.specs.Ordering.{is_lt};
 ghost use Rattle.plain.specs.Points.{rank_order};

@@ -1,4 +1,5 @@
-// The way down the tree: which child to go to.
+// The way down the tree: which child to go to. The loops go over the numbers of the children, since
+// a number is the answer.
 ghost use Rattle.std.specs.Prelude.{◌≡◌, ◌<◌, length};
 ghost use Rattle.std.specs.List.{slice_get, AllByRecursion};
 ghost use Rattle.std.specs.Ordering.{is_lt};

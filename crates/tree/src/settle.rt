@@ -1,4 +1,5 @@
-// Nodes laid anew over trees that stand, and points that find their place in them.
+// Nodes laid anew over trees that stand, and points that find their place in them. Several trees of
+// one height are their places and that height: each has a root of its own.
 ghost use Rattle.std.specs.Prelude.{◌≡◌, ◌-◌, ◌<◌, length, Some};
 ghost use Rattle.trees.specs.Tree.{grow, uses_all};
 ghost use Rattle.table.specs.Kids.{kids_of};

@@ -39,6 +39,7 @@ fn altered(n: Node<u64, u32>, damage: Damage) -> Node<u64, u32> {
 
 // Whether a node can be altered at no place without the checker saying so.
 fn all_seen(nodes: &mut [Node<u64, u32>], header: Header, damage: Damage) -> Result<(), Fail> {
+    // By number: the whole table is read while one node of it is altered.
     for i in 0..nodes.len() {
         let n = nodes[i];
         if i < usize::from(header.free.fresh) {

@@ -22,7 +22,7 @@ pub type Pt = Stored<u64, u32>;
 // The weight of each key.
 pub type Points = BTreeMap<Key<u64>, u32>;
 
-// What a step does with a point.
+// What a step does with a point: a value and no closure, as it may come by chance.
 #[derive(Clone, Copy)]
 pub enum Act {
     Insert,

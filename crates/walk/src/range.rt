@@ -51,6 +51,7 @@ fn visit<K: Kind>(
 
 // The range walk from a root: the matches and the visited nodes. The list has the first matches of
 // the walk, as many as it has places.
+// `Sound` is a premise and no ghost field: it is a fact about the table lent beside the subtree.
 pub fn range_walk<K: Kind>(
     nodes: &[Node<K::Coordinate, K::Recorded>],
     tree: Subtree,
@@ -71,6 +72,7 @@ pub fn range_walk<K: Kind>(
     };
     let mut matches = 0;
     let mut visited = 0;
+    // Until no entry is left: the walk puts entries where it takes them.
     while let Some(next) = stack.pop() {
         visited += 1;
         let node = read(nodes, next.root);

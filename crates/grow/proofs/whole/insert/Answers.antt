@@ -1,7 +1,8 @@
 use Rattle.table.specs.Reading.{point_in}
 use Rattle.tree.specs.Standing.{forest_of}
 use Rattle.grow.specs.Planted.{Planted}
-use Rattle.grow.proofs.Stands.{spares-in, some-spare, empty, one-tree, enough, ready, low, stands_on, rules-on, any-height}
+use Rattle.tree.proofs.Standings.{one-tree}
+use Rattle.grow.proofs.Stands.{spares-in, some-spare, empty, enough, ready, low, stands_on, rules-on, any-height}
 use Rattle.grow.proofs.whole.insert.Goals.{then-old-eq0, else-old-eq0}
 use Rattle.grow.proofs.whole.insert.Goals as goal
 
@@ -23,6 +24,6 @@ returns g c =
     let grown : Planted g.K.Kind.meaning c.args.nodes.now c.if-old-eq0.nodes c.args.header.now.free c.if-old-eq0.free c.args.header.now.top.height (forest_of g.K.Kind.meaning c.args.nodes.now c.args.header.now) (point_in g.K.Kind.meaning c.args.x) top.height top.root =
     elim c.if-old-eq0.branch [
       | then-old-eq0 w ↦ rw (w.nodes-is, w.free-is, w.top-is, empty c.requires.standing c.requires.room w.if-old-eq0.true) (any-height c.args.header.now.top.height (some-spare c.requires.standing c.requires.room w.if-old-eq0.true) w.plant-top.ensures)
-      | else-old-eq0 w ↦ rw (w.nodes-is, w.free-is, w.top-is, one-tree c.requires.standing c.requires.room w.if-old-eq0.false) w.extend-top.ensures
+      | else-old-eq0 w ↦ rw (w.nodes-is, w.free-is, w.top-is, one-tree g.K.Kind.meaning c.args.nodes.now c.args.header.now w.if-old-eq0.false) w.extend-top.ensures
     ] in
     record { standing = stands_on c.requires.standing c.requires.room top c.if-old-eq0.auto.nodes grown; ruled = rules-on c.requires.standing c.requires.room top c.if-old-eq0.auto.nodes grown g.met.K.Kind.first g.met.K.Kind.second }
