@@ -1,6 +1,6 @@
 -- The child to go to, from place to place; and that it is the child that the tree says.
-use Rattle.std.proofs.Common.{◌≡◌, ℕ, zero, suc, ◌+◌, ◌-◌, ◌<◌, ◌≤◌, Bool, true, false, cond, List, [], ◌∷◌, length, get_or, drop, Some, None, Option, sym, refl, ap, ◌∙◌, subst, arith}
-use Rattle.std.proofs.lemmas.List.{at_drop_more, at_drop_all}
+use Rattle.std.proofs.Common.{◌≡◌, ℕ, zero, suc, ◌+◌, ◌-◌, ◌<◌, ◌≤◌, Bool, true, false, cond, List, [], ◌∷◌, length, get_or, take, drop, Some, None, Option, sym, refl, ap, ◌∙◌, subst, arith}
+use Rattle.std.proofs.lemmas.List.{at_drop_more, at_drop_all, take_all}
 use Rattle.std.proofs.lemmas.Bool.{cond-true, cond-false}
 use Rattle.std.specs.List.{slice_get}
 use Rattle.kinds.specs.Meaning.{Meaning}
@@ -12,28 +12,32 @@ use Rattle.table.specs.declared.node.Node.{Node}
 use Rattle.table.specs.Reading.{leaf_of, fork_of, tree_at, kept_in}
 use Rattle.tree.specs.Places.{key_of_node, kept_of_node, key_at, kept_at, run_at, pick_at, best_from_at, best_at}
 
+-- an element after the first
+pub later-at : (s : List ℕ) (i : ℕ) → 0 < length s → get_or (take (length s - 1) (drop 1 s)) i 0 ≡ get_or s (i + 1) 0
+later-at [] i h = absurd (omega arith)
+later-at (p ∷ ps) i h =
+    let one : i + 1 ≡ suc i = omega arith in
+    ap (λ qs. get_or qs i 0) (take_all (suc (length ps) - 1) ps (omega arith)) ∙ ap (λ j. get_or (p ∷ ps) j 0) (sym one)
+
 module _ {C W R : Type 0} (m : Meaning C W R) (ns : List (Node C R)) where
-  -- ---- the loop that looks for the child on the way to a key
-  module _ (k : Key C) (ps : List ℕ) where
-    pub pick-start : 0 < length ps → 1 - 1 + run_at m ns k (drop 1 ps) ≡ pick_at m ns k ps
-    pick-start some = go ps some
-      where
-        go : (ps : List ℕ) → 0 < length ps → 1 - 1 + run_at m ns k (drop 1 ps) ≡ pick_at m ns k ps
-        go [] h = absurd (omega arith)
-        go (p ∷ ps) h = omega arith
+  -- ---- the loop that looks for the child on the way to a key, among those after the first
+  module _ (k : Key C) where
+    pub pick-later : (ps : List ℕ) → 0 < length ps → run_at m ns k (take (length ps - 1) (drop 1 ps)) ≡ pick_at m ns k ps
+    pick-later [] h = absurd (omega arith)
+    pick-later (p ∷ ps) h = ap (run_at m ns k) (take_all (suc (length ps) - 1) ps (omega arith))
 
-    module _ (i : ℕ) (lt : i < length ps) (some : 1 ≤ i) (inv : i - 1 + run_at m ns k (drop i ps) ≡ pick_at m ns k ps) (b : Bool) (is : b ≡ is_before m k (key_at ns (get_or ps i 0))) where
-      here : run_at m ns k (drop i ps) ≡ cond b 0 (suc (run_at m ns k (drop (i + 1) ps)))
-      here = at_drop_more (run_at m ns k) ps i 0 lt ∙ ap (λ c. cond c 0 (suc (run_at m ns k (drop (i + 1) ps)))) (sym is)
+    module _ (qs : List ℕ) (i : ℕ) (lt : i < length qs) (inv : i + run_at m ns k (drop i qs) ≡ run_at m ns k qs) (b : Bool) (is : b ≡ is_before m k (key_at ns (get_or qs i 0))) where
+      here : run_at m ns k (drop i qs) ≡ cond b 0 (suc (run_at m ns k (drop (i + 1) qs)))
+      here = at_drop_more (run_at m ns k) qs i 0 lt ∙ ap (λ c. cond c 0 (suc (run_at m ns k (drop (i + 1) qs)))) (sym is)
 
-      pub pick-found : b ≡ true → i - 1 ≡ pick_at m ns k ps
+      pub pick-found : b ≡ true → i ≡ run_at m ns k qs
       pick-found e = omega (arith, inv, here ∙ cond-true b _ _ e)
 
-      pub pick_more : b ≡ false → i + 1 - 1 + run_at m ns k (drop (i + 1) ps) ≡ pick_at m ns k ps
+      pub pick_more : b ≡ false → i + 1 + run_at m ns k (drop (i + 1) qs) ≡ run_at m ns k qs
       pick_more e = omega (arith, inv, here ∙ cond-false b _ _ e)
 
-    pub pick_all : (i : ℕ) → length ps ≤ i → i - 1 + run_at m ns k (drop i ps) ≡ pick_at m ns k ps → i - 1 ≡ pick_at m ns k ps
-    pick_all i all inv = omega (arith, inv, at_drop_all (run_at m ns k) ps i all)
+    pub pick_all : (qs : List ℕ) (i : ℕ) → length qs ≤ i → i + run_at m ns k (drop i qs) ≡ run_at m ns k qs → i ≡ run_at m ns k qs
+    pick_all qs i all inv = omega (arith, inv, at_drop_all (run_at m ns k) qs i all)
 
   -- ---- the loop that looks for the child that keeps the first point in rank
   module _ (ps : List ℕ) where

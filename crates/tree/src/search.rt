@@ -1,5 +1,4 @@
-// The way down the tree: which child to go to. The loops go over the numbers of the children, since
-// a number is the answer.
+// The way down the tree: which child to go to.
 ghost use Rattle.std.specs.Prelude.{◌≡◌, ◌<◌, length};
 ghost use Rattle.std.specs.List.{slice_get, AllByRecursion};
 ghost use Rattle.std.specs.Ordering.{is_lt};
@@ -73,13 +72,15 @@ pub fn pick_child<K: Kind>(
     ensures is { result ≡ pick_at K.Kind.meaning nodes.now key (kids_of children) }
     ensures below { result < length (kids_of children) }
 {
-    let count = children.len();
-    for i in 1..count {
-        if is_before::<K>(nodes, children.at(i), key) {
-            return i - 1;
+    let [_, later @ ..] = children.as_slice() else {
+        return 0;
+    };
+    for (i, p) in later.iter().enumerate() {
+        if is_before::<K>(nodes, *p, key) {
+            return i;
         }
     }
-    count - 1
+    later.len()
 }
 
 // The number of the child that keeps the first point in rank order.
@@ -89,13 +90,15 @@ pub fn best_child<K: Kind>(nodes: &[Node<K::Coordinate, K::Recorded>], children:
     ensures is { result ≡ best_at K.Kind.meaning nodes.now (kids_of children) }
     ensures below { result < length (kids_of children) }
 {
-    let count = children.len();
+    let [first, others @ ..] = children.as_slice() else {
+        return 0;
+    };
     let mut best = 0;
-    let mut top = read(nodes, children.at(0));
-    for i in 1..count {
-        let node = read(nodes, children.at(i));
+    let mut top = read(nodes, *first);
+    for (i, p) in others.iter().enumerate() {
+        let node = read(nodes, *p);
         if leads_over::<K>(node, top) {
-            best = i;
+            best = i + 1;
             top = node;
         }
     }

@@ -1,24 +1,15 @@
-use Rattle.std.proofs.Common.{◌≡◌, ◌+◌, ◌<◌, ◌≤◌, length, Some, sym, ◌∙◌, subst, arith}
+use Rattle.std.proofs.Common.{◌≡◌, ℕ, ◌+◌, ◌<◌, ◌≤◌, List, length, get_or, Some, sym, ap, ◌∙◌, subst, arith}
 use Rattle.std.specs.List.{slice_get}
 use Rattle.table.specs.Reading.{kept_in}
-use Rattle.std.proofs.ByRecursion.{All-get_or}
 use Rattle.table.specs.Kids.{kids_of}
-use Rattle.tree.proofs.Picks.{Best, best-start, best-new, best-old, best-all}
+use Rattle.tree.proofs.Picks.{Best, later-at, best-start, best-new, best-old, best-all}
 use Rattle.tree.proofs.search.best_child.Goals as goal
 use Rattle.tree.proofs.search.best_child.Goals.{then-leads_over, else-leads_over}
 
-pub read-top-requires : goal.read-top-requires
-read-top-requires g c =
-    subst (λ q. q < length c.args.nodes.now) (sym c.at.ensures) (All-get_or (λ q. q < length c.args.nodes.now) (kids_of c.args.children) 0 0 c.requires.some c.requires.within)
-
-pub read-node-requires : goal.read-node-requires
-read-node-requires g c =
-    let lt : c.loop-i.i < length (kids_of c.args.children) = omega arith in
-    subst (λ q. q < length c.args.nodes.now) (sym c.at-in-loop-i.ensures) (All-get_or (λ q. q < length c.args.nodes.now) (kids_of c.args.children) c.loop-i.i 0 lt c.requires.within)
-
 pub loop-i-init : goal.loop-i-init
 loop-i-init g c = (
-  best-start g.K.Kind.meaning c.args.nodes.now (kids_of c.args.children) c.requires.some c.read-top.result (subst (λ q. slice_get c.args.nodes.now q ≡ Some c.read-top.result) c.at.ensures c.read-top.ensures),
+  best-start g.K.Kind.meaning c.args.nodes.now (kids_of c.args.children) c.requires.some c.read-top.result
+      (ap (λ (s : List ℕ). slice_get c.args.nodes.now (get_or s 0 0)) (sym c.as_slice.ensures) ∙ c.read-top.ensures),
   c.requires.some,
 )
 
@@ -28,17 +19,19 @@ loop-i-preserved g c =
     let ns = c.args.nodes.now in
     let ps = kids_of c.args.children in
     let n = c.read-node.result in
-    let lt : c.loop-i.i < length ps = omega arith in
-    let is = subst (λ q. slice_get ns q ≡ Some n) c.at-in-loop-i.ensures c.read-node.ensures in
+    let i = c.loop-i.i in
+    let lt : i + 1 < length ps = omega (arith, ap length c.as_slice.ensures, c.loop-i-test.true) in
+    let is : slice_get ns (get_or ps (i + 1) 0) ≡ Some n =
+    ap (λ (s : List ℕ). slice_get ns (get_or s (i + 1) 0)) (sym c.as_slice.ensures) ∙ ap (slice_get ns) (sym (later-at c.as_slice.result.now i c.in-len1-up.len_at_least)) ∙ c.read-node.ensures in
     elim c.if-leads_over.branch [
       | then-leads_over w ↦
-          let e = best-new m ns ps c.loop-i.best (kept_in m c.loop-i.top) c.loop-i.i lt c.loop-i.invariant.0 n is (sym c.leads_over.ensures ∙ w.if-leads_over.true) in (
-            subst (λ b. Best m ns ps b (kept_in m c.if-leads_over.top) (c.loop-i.i + 1)) (sym w.best-is) (subst (λ t. Best m ns ps c.loop-i.i (kept_in m t) (c.loop-i.i + 1)) (sym w.top-is) e),
+          let e = best-new m ns ps c.loop-i.best (kept_in m c.loop-i.top) (i + 1) lt c.loop-i.invariant.0 n is (sym c.leads_over.ensures ∙ w.if-leads_over.true) in (
+            subst (λ b. Best m ns ps b (kept_in m c.if-leads_over.top) (i + 1 + 1)) (sym w.best-is) (subst (λ t. Best m ns ps (i + 1) (kept_in m t) (i + 1 + 1)) (sym w.top-is) e),
             subst (λ b. b < length ps) (sym w.best-is) lt,
           )
       | else-leads_over w ↦
-          let e = best-old m ns ps c.loop-i.best (kept_in m c.loop-i.top) c.loop-i.i lt c.loop-i.invariant.0 n is (sym c.leads_over.ensures ∙ w.if-leads_over.false) in (
-            subst (λ b. Best m ns ps b (kept_in m c.if-leads_over.top) (c.loop-i.i + 1)) (sym w.best-is) (subst (λ t. Best m ns ps c.loop-i.best (kept_in m t) (c.loop-i.i + 1)) (sym w.top-is) e),
+          let e = best-old m ns ps c.loop-i.best (kept_in m c.loop-i.top) (i + 1) lt c.loop-i.invariant.0 n is (sym c.leads_over.ensures ∙ w.if-leads_over.false) in (
+            subst (λ b. Best m ns ps b (kept_in m c.if-leads_over.top) (i + 1 + 1)) (sym w.best-is) (subst (λ t. Best m ns ps c.loop-i.best (kept_in m t) (i + 1 + 1)) (sym w.top-is) e),
             subst (λ b. b < length ps) (sym w.best-is) c.loop-i.invariant.1,
           )
     ]
@@ -46,5 +39,5 @@ loop-i-preserved g c =
 pub returns : goal.returns
 returns g c =
     let ps = kids_of c.args.children in
-    let all : length ps ≤ c.loop-i.i = omega (arith, c.len-count.ensures) in
-    record { is = best-all g.K.Kind.meaning c.args.nodes.now ps c.loop-i.best (kept_in g.K.Kind.meaning c.loop-i.top) c.loop-i.i all c.loop-i.invariant.0; below = c.loop-i.invariant.1 }
+    let all : length ps ≤ c.loop-i.i + 1 = omega (arith, ap length c.as_slice.ensures, c.loop-i-test.false) in
+    record { is = best-all g.K.Kind.meaning c.args.nodes.now ps c.loop-i.best (kept_in g.K.Kind.meaning c.loop-i.top) (c.loop-i.i + 1) all c.loop-i.invariant.0; below = c.loop-i.invariant.1 }

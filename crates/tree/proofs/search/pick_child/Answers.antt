@@ -1,43 +1,26 @@
-use Rattle.std.proofs.Common.{◌≡◌, ◌-◌, ◌<◌, ◌≤◌, length, sym, ap, ◌∙◌, subst, arith}
-use Rattle.std.proofs.ByRecursion.{All-get_or}
-use Rattle.trees.specs.Kept.{is_before}
-use Rattle.table.specs.Kids.{kids_of}
-use Rattle.tree.specs.Places.{key_at}
-use Rattle.tree.proofs.Picks.{pick-start, pick-found, pick_more, pick_all}
+use Rattle.std.proofs.Common.{◌≡◌, ◌-◌, length, take, drop, ap, ◌∙◌, arith}
+use Rattle.tree.specs.Places.{pick_at}
+use Rattle.tree.proofs.Picks.{pick-later, pick-found, pick_more, pick_all}
 use Rattle.tree.proofs.search.pick_child.Goals as goal
-
-pub is_before-requires : goal.is_before-requires
-is_before-requires g c =
-    let lt : c.loop-i.i < length (kids_of c.args.children) = omega arith in
-    subst (λ q. q < length c.args.nodes.now) (sym c.at.ensures) (All-get_or (λ q. q < length c.args.nodes.now) (kids_of c.args.children) c.loop-i.i 0 lt c.requires.within)
-
-pub loop-i-init : goal.loop-i-init
-loop-i-init g c = pick-start g.K.Kind.meaning c.args.nodes.now c.args.key (kids_of c.args.children) c.requires.some
 
 pub loop-i-preserved : goal.loop-i-preserved
 loop-i-preserved g c =
+    let s = c.as_slice.result.now in
+    pick_more g.K.Kind.meaning c.args.nodes.now c.args.key (take (length s - 1) (drop 1 s)) c.loop-i.i c.loop-i-test.true c.loop-i.invariant c.is_before.result c.is_before.ensures c.if-is_before.false
+
+pub returns-then-is_before-clause-is : goal.returns-then-is_before-clause-is
+returns-then-is_before-clause-is g c =
     let m = g.K.Kind.meaning in
     let ns = c.args.nodes.now in
-    let ps = kids_of c.args.children in
-    let lt : c.loop-i.i < length ps = omega arith in
-    pick_more m ns c.args.key ps c.loop-i.i lt c.loop-i.auto.i c.loop-i.invariant c.is_before.result (c.is_before.ensures ∙ ap (λ q. is_before m c.args.key (key_at ns q)) c.at.ensures) c.if-is_before.false
+    let s = c.as_slice.result.now in
+    pick-found m ns c.args.key (take (length s - 1) (drop 1 s)) c.loop-i.i c.loop-i-test.true c.loop-i.invariant c.is_before.result c.is_before.ensures c.if-is_before.true
+    ∙ pick-later m ns c.args.key s c.in-len1-up.len_at_least ∙ ap (pick_at m ns c.args.key) c.as_slice.ensures
 
-pub returns-then-is_before : goal.returns-then-is_before
-returns-then-is_before g c =
+pub returns-clause-is : goal.returns-clause-is
+returns-clause-is g c =
     let m = g.K.Kind.meaning in
     let ns = c.args.nodes.now in
-    let ps = kids_of c.args.children in
-    let lt : c.loop-i.i < length ps = omega arith in
-    record {
-      is = pick-found m ns c.args.key ps c.loop-i.i lt c.loop-i.auto.i c.loop-i.invariant c.is_before.result (c.is_before.ensures ∙ ap (λ q. is_before m c.args.key (key_at ns q)) c.at.ensures) c.if-is_before.true;
-      below = omega arith;
-    }
-
-pub returns : goal.returns
-returns g c =
-    let ps = kids_of c.args.children in
-    let n = c.len-count.result in
-    let end : c.loop-i.i ≡ n = omega (arith, c.requires.some, c.len-count.ensures, c.loop-i.auto.i-end) in
-    let all : length ps ≤ c.loop-i.i = omega (arith, c.len-count.ensures) in
-    let is = pick_all g.K.Kind.meaning c.args.nodes.now c.args.key ps c.loop-i.i all c.loop-i.invariant in
-    record { is = ap (λ j. j - 1) (sym end) ∙ is; below = omega (arith, c.requires.some, c.len-count.ensures) }
+    let s = c.as_slice.result.now in
+    let all : length (take (length s - 1) (drop 1 s)) ≡ c.loop-i.i = omega (arith, c.loop-i-test.false, c.loop-i.auto.i-end) in
+    all ∙ pick_all m ns c.args.key (take (length s - 1) (drop 1 s)) c.loop-i.i (omega (arith, all)) c.loop-i.invariant
+    ∙ pick-later m ns c.args.key s c.in-len1-up.len_at_least ∙ ap (pick_at m ns c.args.key) c.as_slice.ensures
