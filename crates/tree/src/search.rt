@@ -75,6 +75,7 @@ pub fn pick_child<K: Kind>(
     let [_, later @ ..] = children.as_slice() else {
         return 0;
     };
+    // No `position`: its closure would owe at each turn that the place is in the table.
     for (i, p) in later.iter().enumerate() {
         if is_before::<K>(nodes, *p, key) {
             return i;

@@ -63,6 +63,7 @@ impl<'a> Pile<'a> {
     {
         let Window { lower, upper } = bounds;
         let mut reaching = true;
+        // By number: of `iter().rev()` a proof knows the items so far, and not those left.
         for i in (0..children.len()).rev() {
             let root = children.at(i);
             let at = read(nodes, root).own.at;
