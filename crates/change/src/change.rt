@@ -26,7 +26,7 @@ fn stored<C: Copy, R: Copy>(key: Key<C>, weight: R) -> Stored<C, R>
 }
 
 // In one tree: the point of a key is taken out, its leaf gets the weight, and it is kept again.
-// `Sound` is a premise and no ghost field: it is a fact about the table lent beside the subtree.
+// `Sound` is a premise and no ghost field of the subtree: it is a fact about the table lent beside it.
 fn reweigh_below<K: Kind>(
     nodes: &mut [Node<K::Coordinate, K::Recorded>],
     tree: Subtree,
@@ -42,7 +42,9 @@ fn reweigh_below<K: Kind>(
 }
 
 // The point of a key gets another weight.
-// `Standing` is a premise and no ghost field: the table is lent beside its header.
+// `Standing` is a premise: the tree's functions take the caller's table as a slice. Tried as a ghost
+// field of a struct of table and header: it goes by recursion, so it must be truncated there, and
+// then proves no call's premise.
 pub fn change<K: Kind>(
     nodes: &mut [Node<K::Coordinate, K::Recorded>],
     header: Header,

@@ -28,7 +28,7 @@ fn weight_if<K: Kind>(
 }
 
 // The weight at the leaf on the way to a key, if the leaf has that key.
-// `Sound` is a premise and no ghost field: it is a fact about the table lent beside the subtree.
+// `Sound` is a premise and no ghost field of the subtree: it is a fact about the table lent beside it.
 pub fn find_below<K: Kind>(
     nodes: &[Node<K::Coordinate, K::Recorded>],
     tree: Subtree,
@@ -50,7 +50,9 @@ pub fn find_below<K: Kind>(
 }
 
 // The weight of a key, if the key stands.
-// `Standing` is a premise and no ghost field: the table is lent beside its header.
+// `Standing` is a premise: the tree's functions take the caller's table as a slice. Tried as a ghost
+// field of a struct of table and header: it goes by recursion, so it must be truncated there, and
+// then proves no call's premise.
 pub fn find<K: Kind>(
     nodes: &[Node<K::Coordinate, K::Recorded>],
     header: Header,

@@ -1,4 +1,5 @@
-// How a table is read where nothing is known of it.
+// How a table is read where nothing is known of it. Trees of one height are their places, as a slice,
+// and that height: each has a root of its own.
 ghost use Rattle.std.specs.Prelude.{◌≡◌};
 ghost use Rattle.std.specs.List.{slice_get};
 ghost use Rattle.checker.specs.Passes.{next_at};

@@ -66,7 +66,9 @@ fn extend<K: Kind>(
 }
 
 // Adds a point: the tree then holds it beside the others, and keeps it.
-// `Standing` is a premise and no ghost field: the table is lent beside its header.
+// `Standing` is a premise: the tree's functions take the caller's table as a slice. Tried as a ghost
+// field of a struct of table and header: it goes by recursion, so it must be truncated there, and
+// then proves no call's premise.
 pub fn insert<K: Kind>(
     nodes: &mut [Node<K::Coordinate, K::Recorded>],
     header: &mut Header,

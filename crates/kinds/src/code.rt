@@ -1,4 +1,5 @@
-// A station's code: eight bytes, compared from the left.
+// A station's code: eight bytes, compared from the left. Fields and no array, so that a point or a
+// hold of it passes through a `Result`.
 ghost use Rattle.std.specs.Prelude.{◌≡◌};
 ghost use Rattle.kinds.specs.Code.{by_code, fit_code};
 

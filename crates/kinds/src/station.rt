@@ -1,5 +1,6 @@
 // Stations by their codes, of which those with a small weight are strong. A block beside that of
-// residuals, though three answers are alike: the coordinate is of another type, and each is one call.
+// residuals, though three answers and what is summed are alike: the coordinate is of another type, and each is
+// one call.
 ghost use Rattle.kinds.specs.Kinds.{station};
 ghost use Rattle.kinds.specs.Codes.{code-law, code-weights};
 

@@ -1,4 +1,5 @@
-// The commands that a line can give; patterns and thresholds are the bits of binary32 numbers.
+// The commands that a line can give; patterns and thresholds are the bits of binary32 numbers. Plain
+// numbers and no keys or windows: this crate stands on no other.
 #[derive(Clone, Copy, Debug, PartialEq, Eq)]
 pub enum Command {
     Insert {

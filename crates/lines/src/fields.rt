@@ -13,8 +13,8 @@ const TOP_NUMBER: u64 = 0xffff_ffff;
 
 const MOST_PLACES: u64 = 64;
 
-// The casts below lose nothing, as the check proves from these bounds; `try_from` would add a way to
-// fail that never comes.
+// The casts below lose nothing, as the check proves from these bounds, which the grammar names;
+// `try_from` would hide the bound in a type.
 
 // An epoch, a number and a pattern.
 pub fn point(s: &[u8]) -> Option<(u64, u32, u32)>

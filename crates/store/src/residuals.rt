@@ -76,9 +76,7 @@ impl Residuals {
     pub fn delete(&mut self, key: Key<u64>) -> Result<(), Refusal>
         ensures { Changed (delete_refused small key self.old) self.old (remove small key self.old) result self.new }
     {
-        let Ok(i) = place(self.points.as_slice(), key) else {
-            return Err(Refusal::Missing);
-        };
+        let i = place(self.points.as_slice(), key).map_err(|_| Refusal::Missing)?;
         let _ = self.points.remove(i);
         Ok(())
     }
@@ -90,9 +88,7 @@ impl Residuals {
         if !Small::is_fit(key.at, weight) {
             return Err(Refusal::Unfit);
         }
-        let Ok(i) = place(self.points.as_slice(), key) else {
-            return Err(Refusal::Missing);
-        };
+        let i = place(self.points.as_slice(), key).map_err(|_| Refusal::Missing)?;
         self.points[i] = Point { key, weight };
         Ok(())
     }

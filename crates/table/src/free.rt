@@ -1,5 +1,6 @@
 // The places of a table that hold no node of the tree: some are chained, each with the place of
-// the next, and those from `fresh` on were never used.
+// the next, and those from `fresh` on were never used. The chain lies in the nodes themselves: a
+// table has a fixed size, and nothing else to keep it in.
 ghost use Rattle.std.specs.Prelude.{◌≡◌, ℕ, ◌<◌, ◌≤◌, ◌∷◌, length, Some, ◌≢◌};
 ghost use Rattle.std.specs.List.{slice_get, AllByRecursion};
 ghost use Rattle.table.specs.Spares.{link_of, spares};

@@ -5,7 +5,7 @@ use crate::subtree::Subtree;
 #[derive(Clone, Copy, Debug, PartialEq, Eq)]
 pub struct Header {
     pub top: Subtree,
-    // how many points there are; with none there is no tree
+    // how many points there are; with none there is no tree, which needs no `Option` at the top beside it
     pub count: u16,
     pub free: Free,
 }

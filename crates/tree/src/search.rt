@@ -73,7 +73,7 @@ pub fn pick_child<K: Kind>(
     ensures below { result < length (kids_of children) }
 {
     let [_, later @ ..] = children.as_slice() else {
-        return 0;
+        unreachable!();
     };
     // No `position`: its closure would owe at each turn that the place is in the table.
     for (i, p) in later.iter().enumerate() {
@@ -92,7 +92,7 @@ pub fn best_child<K: Kind>(nodes: &[Node<K::Coordinate, K::Recorded>], children:
     ensures below { result < length (kids_of children) }
 {
     let [first, others @ ..] = children.as_slice() else {
-        return 0;
+        unreachable!();
     };
     let mut best = 0;
     let mut top = read(nodes, *first);

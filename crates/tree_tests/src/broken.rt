@@ -10,7 +10,7 @@ use std::test::Fail;
 use table::header::Header;
 use table::node::{Node, Stored};
 
-// The ways in which a node is altered.
+// The ways in which a node is altered: values, each tried at every place.
 #[derive(Clone, Copy)]
 enum Damage {
     Keeping,

@@ -11,7 +11,7 @@ use std::test::Fail;
 use table::children::Children;
 use table::node::{Node, Stored};
 
-// In which order the keys of a run come.
+// In which order the keys of a run come: a value, to be passed on to each sweep.
 #[derive(Clone, Copy)]
 pub enum Order {
     Rising,
@@ -91,7 +91,7 @@ struct Odds {
     inserts: u64,
 }
 
-// A point by a number of chance.
+// A point by a number of chance; the casts take low bits.
 fn chance_point(seed: u64, odds: Odds) -> Pt {
     Stored {
         at: seed >> 20 & odds.coordinates,

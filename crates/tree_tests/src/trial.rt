@@ -30,6 +30,8 @@ pub enum Act {
     Change,
 }
 
+// That a tree stands there is a premise of its methods, and no ghost field: it goes by recursion, so a
+// field would hold it truncated, which proves no call's premise.
 #[derive(Drop)]
 pub struct Trial<'a> {
     pub nodes: &'a mut [Node<u64, u32>],

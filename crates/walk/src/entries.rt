@@ -12,7 +12,8 @@ use table::children::Children;
 use table::node::{Node, read};
 use table::subtree::Subtree;
 
-// The first `depth` places of a slice are taken: the array of a range walk, or the caller's frontier.
+// The first `depth` places of a slice are taken. No `Vec`: nothing is allocated, and the slice is the
+// array of a range walk or the caller's frontier.
 #[derive(Drop)]
 pub struct Pile<'a> {
     pub entries: &'a mut [Subtree],

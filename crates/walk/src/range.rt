@@ -22,7 +22,8 @@ fn leading<K: Kind>(
     kept.filter(|x| is_reaching::<K>(K::recall(x.weight), threshold))
 }
 
-// Lists a point if the list has a place left.
+// Lists a point if the list has a place left. The count is no length of the list: it goes on where
+// the list is full.
 fn note<C: Copy, W: Copy>(list: &mut [Point<C, W>], matches: usize, p: Point<C, W>)
     ensures { list.new ≡ noted list.old matches p }
 {
@@ -51,7 +52,7 @@ fn visit<K: Kind>(
 
 // The range walk from a root: the matches and the visited nodes. The list has the first matches of
 // the walk, as many as it has places.
-// `Sound` is a premise and no ghost field: it is a fact about the table lent beside the subtree.
+// `Sound` is a premise and no ghost field of the subtree: it is a fact about the table lent beside it.
 pub fn range_walk<K: Kind>(
     nodes: &[Node<K::Coordinate, K::Recorded>],
     tree: Subtree,
