@@ -43,8 +43,8 @@ fn reweigh_below<K: Kind>(
 
 // The point of a key gets another weight.
 // `Standing` is a premise: the tree's functions take the caller's table as a slice. Tried as a ghost
-// field of a struct of table and header: it goes by recursion, so it must be truncated there, and
-// then proves no call's premise.
+// field of a struct of table and header: it goes by recursion, so a field holds it truncated, which
+// proves no call's premise.
 pub fn change<K: Kind>(
     nodes: &mut [Node<K::Coordinate, K::Recorded>],
     header: Header,

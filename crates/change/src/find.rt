@@ -51,8 +51,8 @@ pub fn find_below<K: Kind>(
 
 // The weight of a key, if the key stands.
 // `Standing` is a premise: the tree's functions take the caller's table as a slice. Tried as a ghost
-// field of a struct of table and header: it goes by recursion, so it must be truncated there, and
-// then proves no call's premise.
+// field of a struct of table and header: it goes by recursion, so a field holds it truncated, which
+// proves no call's premise.
 pub fn find<K: Kind>(
     nodes: &[Node<K::Coordinate, K::Recorded>],
     header: Header,

@@ -1,7 +1,7 @@
 -- A stack of entries in a slice.
 use Rattle.std.specs.Prelude.{List}
 use Rattle.table.specs.declared.subtree.Subtree.{Subtree}
-use Rattle.walk.specs.declared.entries.Pile.{Pile}
+use Rattle.walk.specs.declared.pile.Pile.{Pile}
 use Rattle.walk.specs.Entries.{pile}
 
 -- its entries, the one that joined last first

@@ -6,19 +6,12 @@ ghost use Rattle.table.specs.Kids.{kids_of};
 ghost use Rattle.walk.specs.Entries.{open_entries};
 ghost use Rattle.walk.specs.Piles.{pile_of};
 
+use crate::pile::Pile;
 use kinds::Kind;
 use plain::{Window, is_later};
 use table::children::Children;
 use table::node::{Node, read};
 use table::subtree::Subtree;
-
-// The first `depth` places of a slice are taken. No `Vec`: nothing is allocated, and the slice is the
-// array of a range walk or the caller's frontier.
-#[derive(Drop)]
-pub struct Pile<'a> {
-    pub entries: &'a mut [Subtree],
-    pub depth: usize,
-}
 
 impl<'a> Pile<'a> {
     // Puts an entry on top.
@@ -34,7 +27,6 @@ impl<'a> Pile<'a> {
 
     // Takes the entry on top, if there is one.
     pub fn pop(&mut self) -> Option<Subtree>
-        requires { self.old.depth ≤ length self.old.entries.now }
         ensures pile { MatchOption result (pile_of self.old ≡ []) (λ e. pile_of self.old ≡ e ∷ pile_of self.new) }
         ensures depth { MatchOption result (self.old.depth ≡ 0) (λ e. self.old.depth ≡ self.new.depth + 1) }
         ensures places { length self.new.entries.now ≡ length self.old.entries.now }

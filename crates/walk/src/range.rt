@@ -5,7 +5,7 @@ ghost use Rattle.walked.specs.Walk.{leads_on, visits, ranged};
 ghost use Rattle.table.specs.Reading.{point_in, point_in_any, tree_of, Sound};
 ghost use Rattle.walk.specs.Lists.{filled, noted};
 
-use crate::entries::Pile;
+use crate::pile::Pile;
 use kinds::Kind;
 use plain::{Point, Window, is_inside, is_reaching};
 use table::node::{Node, Stored, read};

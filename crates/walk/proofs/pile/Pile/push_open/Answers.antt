@@ -5,8 +5,8 @@ use Rattle.table.specs.Kids.{kids_of}
 use Rattle.walk.specs.Entries.{entry, reaches_at, open_entries}
 use Rattle.walk.specs.Piles.{pile_of}
 use Rattle.walk.proofs.Opens.{open-start, open_more, open-same, reaches-next, joined-few}
-use Rattle.walk.proofs.entries.Pile.push_open.Goals as goal
-use Rattle.walk.proofs.entries.Pile.push_open.Goals.{then-is_by-reaching, else-is_by-reaching}
+use Rattle.walk.proofs.pile.Pile.push_open.Goals as goal
+use Rattle.walk.proofs.pile.Pile.push_open.Goals.{then-is_by-reaching, else-is_by-reaching}
 
 pub loop-i-init : goal.loop-i-init
 loop-i-init g c =

@@ -2,7 +2,7 @@ use Rattle.std.proofs.Common.{◌≡◌, ◌+◌, ◌≤◌, ◌++◌, length, d
 use Rattle.table.specs.Kids.{kids_of}
 use Rattle.walk.specs.Entries.{reaches_at, open_entries}
 use Rattle.walk.specs.Piles.{pile_of}
-use Rattle.walk.proofs.entries.Pile.push_open.Given as goal
+use Rattle.walk.proofs.pile.Pile.push_open.Given as goal
 
 -- the open ones of the children from number i on have joined
 abbrev pub invariant-loop-i : goal.invariant-loop-i
