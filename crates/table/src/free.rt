@@ -1,7 +1,7 @@
 // The places of a table that hold no node of the tree: some are chained, each with the place of
 // the next, and those from `fresh` on were never used. The chain lies in the nodes themselves: a
 // table has a fixed size, and nothing else to keep it in.
-ghost use Rattle.std.specs.Prelude.{◌≡◌, ℕ, ◌<◌, ◌≤◌, ◌∷◌, length, Some, ◌≢◌};
+ghost use Rattle.std.specs.Prelude.{◌≡◌, ℕ, ◌+◌, ◌<◌, ◌≤◌, ◌∷◌, length, Some, ◌≢◌};
 ghost use Rattle.std.specs.List.{slice_get, AllByRecursion};
 ghost use Rattle.table.specs.Spares.{link_of, spares};
 
@@ -51,8 +51,19 @@ impl Free {
     {
         let node = linked(read(nodes, p), self.head);
         write(nodes, p, node);
-        self.head = p;
-        self.chained += 1;
+        *self = self.headed(p);
+    }
+
+    // The free places after `p`, which names the head, has joined them.
+    fn headed(self, p: u16) -> Free
+        requires { self.chained < 65535 }
+        ensures { result ≡ record { head = p; chained = self.chained + 1; fresh = self.fresh } }
+    {
+        Free {
+            head: p,
+            chained: self.chained + 1,
+            fresh: self.fresh,
+        }
     }
 }
 

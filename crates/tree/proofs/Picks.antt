@@ -64,6 +64,15 @@ module _ {C W R : Type 0} (m : Meaning C W R) (ns : List (Node C R)) where
       pub best-old : leads m (kept_in m n) o ≡ false → Best b o (i + 1)
       best-old e = next b o (sym (cond-false (leads m (kept_in m n) o) _ _ e) ∙ step)
 
+    -- the better of the best so far, number b, and number i
+    pub best-better : (b : ℕ) (top : Node C R) (i : ℕ) → (lt : i < length ps) → Best b (kept_in m top) i → b < length ps → (n : Node C R) → slice_get ns (get_or ps i 0) ≡ Some n
+        → let z : ℕ × Node C R = cond (leads m (kept_in m n) (kept_in m top)) (i, n) (b, top) in Best z.0 (kept_in m z.1) (i + 1) × (z.0 < length ps)
+    best-better b top i lt inv low n is = go (leads m (kept_in m n) (kept_in m top)) refl
+      where
+        go : (l : Bool) → leads m (kept_in m n) (kept_in m top) ≡ l → let z : ℕ × Node C R = cond l (i, n) (b, top) in Best z.0 (kept_in m z.1) (i + 1) × (z.0 < length ps)
+        go true e = (best-new b (kept_in m top) i lt inv n is e, lt)
+        go false e = (best-old b (kept_in m top) i lt inv n is e, low)
+
     pub best-all : (b : ℕ) (o : Option (Point C W)) (i : ℕ) → length ps ≤ i → Best b o i → b ≡ best_at m ns ps
     best-all b o i all inv = sym (at_drop_all (best_from_at m ns b o i) ps i all) ∙ inv
 

@@ -1,5 +1,5 @@
 // The way down the tree: which child to go to.
-ghost use Rattle.std.specs.Prelude.{◌≡◌, ◌<◌, length};
+ghost use Rattle.std.specs.Prelude.{◌≡◌, ◌<◌, length, if◌then◌else◌};
 ghost use Rattle.std.specs.List.{slice_get, AllByRecursion};
 ghost use Rattle.std.specs.Ordering.{is_lt};
 ghost use Rattle.plain.specs.Points.{rank_order};
@@ -84,6 +84,20 @@ pub fn pick_child<K: Kind>(
     later.len()
 }
 
+// Of two children the one whose kept point leads; where neither does, the first.
+fn better<K: Kind>(
+    best: (usize, Node<K::Coordinate, K::Recorded>),
+    next: (usize, Node<K::Coordinate, K::Recorded>),
+) -> (usize, Node<K::Coordinate, K::Recorded>)
+    ensures { result ≡ (if leads K.Kind.meaning (kept_in K.Kind.meaning next.1) (kept_in K.Kind.meaning best.1) then next else best) }
+{
+    if leads_over::<K>(next.1, best.1) {
+        next
+    } else {
+        best
+    }
+}
+
 // The number of the child that keeps the first point in rank order.
 pub fn best_child<K: Kind>(nodes: &[Node<K::Coordinate, K::Recorded>], children: Children) -> usize
     requires within { AllByRecursion (λ q. q < length nodes.now) (kids_of children) }
@@ -94,14 +108,9 @@ pub fn best_child<K: Kind>(nodes: &[Node<K::Coordinate, K::Recorded>], children:
     let [first, others @ ..] = children.as_slice() else {
         unreachable!();
     };
-    let mut best = 0;
-    let mut top = read(nodes, *first);
+    let mut best = (0, read(nodes, *first));
     for (i, p) in others.iter().enumerate() {
-        let node = read(nodes, *p);
-        if leads_over::<K>(node, top) {
-            best = i + 1;
-            top = node;
-        }
+        best = better::<K>(best, (i + 1, read(nodes, *p)));
     }
-    best
+    best.0
 }

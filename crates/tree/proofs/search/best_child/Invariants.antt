@@ -8,5 +8,5 @@ use Rattle.tree.proofs.search.best_child.Given as goal
 abbrev pub invariant-loop-i : goal.invariant-loop-i
 invariant-loop-i g l =
     let kids = kids_of l.fn.children in
-    (best_from_at g.K.Kind.meaning l.nodes l.best (kept_in g.K.Kind.meaning l.top) (l.i + 1) (drop (l.i + 1) kids) ≡ best_at g.K.Kind.meaning l.nodes kids)
-    × (l.best < length kids)
+    (best_from_at g.K.Kind.meaning l.nodes l.best.0 (kept_in g.K.Kind.meaning l.best.1) (l.i + 1) (drop (l.i + 1) kids) ≡ best_at g.K.Kind.meaning l.nodes kids)
+    × (l.best.0 < length kids)
