@@ -18,6 +18,7 @@ use Rattle.table.specs.Keys.{key_in}
 use Rattle.table.proofs.Frames.{count-grow}
 use Rattle.table.proofs.Steps.{fork-was}
 use Rattle.tree.specs.Forests.{Seated}
+use Rattle.shrink.specs.Joins.{SeatedBoth}
 
 module _ {C W : Type 0} where
   -- ---- the children of a root
@@ -57,18 +58,18 @@ module _ {C W R : Type 0} {m : Meaning C W R} where
     pub seated-like : bare_all (grow (tree_at m c h) ps) ≡ bare_all (grow (tree_at m b h) ps)
     seated-like = ap bare_all first.trees ∙ seated-bare m h o (grow (tree_at m b h) ps)
 
-    pub seated-sounds : Sounds (length b) h (grow (tree_at m b h) ps) → Sounds (length c) h (grow (tree_at m c h) ps)
-    seated-sounds s = subst (λ n. Sounds n h (grow (tree_at m c h) ps)) (sym len) (sounds-alike (length b) h (grow (tree_at m c h) ps) (grow (tree_at m b h) ps) seated-like s)
+    pub seated_sounds : Sounds (length b) h (grow (tree_at m b h) ps) → Sounds (length c) h (grow (tree_at m c h) ps)
+    seated_sounds s = subst (λ n. Sounds n h (grow (tree_at m c h) ps)) (sym len) (sounds-alike (length b) h (grow (tree_at m c h) ps) (grow (tree_at m b h) ps) seated-like s)
 
-    module _ {d : List (Node C R)} {o' : Option (Point C W)} (last : Seated m c d h ps o') where
-      pub both-seated : grow (tree_at m d h) ps ≡ seated m h o' (seated m h o (grow (tree_at m b h) ps))
-      both-seated = last.trees ∙ ap (seated m h o') first.trees
+    pub seated_both : {d : List (Node C R)} {o' : Option (Point C W)} → Seated m c d h ps o' → SeatedBoth m b d h ps o o'
+    seated_both {d} {o'} last = record {
+      trees = last.trees ∙ ap (seated m h o') first.trees;
+      frame = λ q z. last.frame q (alike-uses_all (grow (tree_at m c h) ps) (grow (tree_at m b h) ps) seated-like q ∙ z) ∙ first.frame q z;
+    }
 
-      pub both-like : bare_all (grow (tree_at m d h) ps) ≡ bare_all (grow (tree_at m b h) ps)
-      both-like = ap bare_all last.trees ∙ seated-bare m h o' (grow (tree_at m c h) ps) ∙ seated-like
-
-      pub both-frame : (q : ℕ) → uses_all (grow (tree_at m b h) ps) q ≡ 0 → slice_get d q ≡ slice_get b q
-      both-frame q z = last.frame q (alike-uses_all (grow (tree_at m c h) ps) (grow (tree_at m b h) ps) seated-like q ∙ z) ∙ first.frame q z
+  pub both-like : {b d : List (Node C R)} {h : ℕ} {ps : List ℕ} {o o' : Option (Point C W)} → SeatedBoth m b d h ps o o' → bare_all (grow (tree_at m d h) ps) ≡ bare_all (grow (tree_at m b h) ps)
+  both-like {b} {d} {h} {ps} {o} {o'} both =
+      ap bare_all both.trees ∙ seated-bare m h o' (seated m h o (grow (tree_at m b h) ps)) ∙ seated-bare m h o (grow (tree_at m b h) ps)
 
 -- ---- a root read in the table, and its children
 module _ {C W R : Type 0} (m : Meaning C W R) where

@@ -17,12 +17,12 @@ use Rattle.table.specs.Reading.{kept_in, tree_at, inside, Sounds}
 use Rattle.table.proofs.Frames.{hit-here, not_there, grow-append, count-grow, place_at, same-tree, same-trees}
 use Rattle.table.proofs.Steps.{inside_one, sound-within}
 use Rattle.tree.specs.Places.{kept_of_node}
-use Rattle.tree.specs.Forests.{Laid, Seated}
+use Rattle.tree.specs.Forests.{Laid}
 use Rattle.tree.proofs.Picks.{kept-tree}
 use Rattle.tree.proofs.Settles.{tree-sound}
 use Rattle.tree.proofs.Spared.{spares-kept}
-use Rattle.shrink.specs.Joins.{Neighbours, Spared, Fused, Shared}
-use Rattle.shrink.proofs.Basics.{Givable, givable, children-were, count-were, uses-children, level-children, sounds-alike, both-seated, both-like, both-frame}
+use Rattle.shrink.specs.Joins.{SeatedBoth, Neighbours, Spared, Fused, Shared}
+use Rattle.shrink.proofs.Basics.{Givable, givable, children-were, count-were, uses-children, level-children, sounds-alike, both-like}
 
 -- a fork over sound trees that it is not part of
 fork-sounds : {C W : Type 0} (n H p : ℕ) (k : Key C) (ts : Forest C W) → H ≡ suc (H - 1) → Sounds n (H - 1) ts → 0 < count ts → count ts ≤ 4 → ((q : ℕ) → hit p q + uses_all ts q ≤ inside n q) → Sounds n H (more (fork p k None ts) none)
@@ -174,19 +174,19 @@ module _ {C W R : Type 0} {m : Meaning C W R} {a : List (Node C R)} {H l r : ℕ
             (λ q. omega (arith, once q))))
 
         -- the points that l and r kept join in
-        module _ {nl nr : Node C R} (is-l : slice_get a l ≡ Some nl) (is-r : slice_get a r ≡ Some nr) {d z : List (Node C R)} (len-d : length d ≡ length c)
-            (first : Seated m c d H (l ∷ r ∷ []) (kept_in m nl)) (last : Seated m d z H (l ∷ r ∷ []) (kept_in m nr)) where
+        module _ {nl nr : Node C R} (is-l : slice_get a l ≡ Some nl) (is-r : slice_get a r ≡ Some nr) {z : List (Node C R)}
+            (both : SeatedBoth m c z H (l ∷ r ∷ []) (kept_in m nl) (kept_in m nr)) where
           pub shared : Shared m a z H l r xs ys
           shared =
               let kept-l : kept_in m nl ≡ kept_by tl = sym (kept-tree m a H l ∙ ap (kept_of_node m) is-l) in
               let kept-r : kept_in m nr ≡ kept_by tr = sym (kept-tree m a H r ∙ ap (kept_of_node m) is-r) in
-              let like = both-like len-d first last in
+              let like = both-like both in
               record {
-                trees = λ j. both-seated len-d first last
+                trees = λ j. both.trees
                     ∙ (λ i. seated m H (kept-r i) (seated m H (kept-l i) (two-are j i)));
                 framed = record {
                   frame = λ q x y.
-                      both-frame len-d first last q (omega (arith, two-uses q))
+                      both.frame q (omega (arith, two-uses q))
                       ∙ laid'.frame q (omega (arith, spread q)) (ap (λ ts. uses_all ts q) still-right ∙ omega (arith, spread q))
                       ∙ laid.frame q (omega (arith, spread q)) (omega (arith, spread q));
                   within = λ q. omega (arith, alike-uses_all (grow (tree_at m z H) (l ∷ r ∷ [])) (grow (tree_at m c H) (l ∷ r ∷ [])) like q, two-uses q);
@@ -202,10 +202,10 @@ module _ {C W R : Type 0} {m : Meaning C W R} {a : List (Node C R)} {H l r : ℕ
     all-some = omega (arith, count-grow branch_at cs, ap count e, count-⊕ (children_of tl) (children_of tr), counts-l.0)
 
     module _ {f : Free} (sp : Spared m a f H (l ∷ r ∷ [])) {nl nr : Node C R} (is-l : slice_get a l ≡ Some nl) (is-r : slice_get a r ≡ Some nr)
-        (k : Key C) {b c d : List (Node C R)} (len-b : length b ≡ length a) (len-c : length c ≡ length b) (len-d : length d ≡ length c)
-        (laid : Laid m a b H l cs) (first : Seated m b c H (l ∷ []) (kept_in m nl)) (last : Seated m c d H (l ∷ []) (kept_in m nr)) where
+        (k : Key C) {b d : List (Node C R)} (len-b : length b ≡ length a) (len-d : length d ≡ length b)
+        (laid : Laid m a b H l cs) (both : SeatedBoth m b d H (l ∷ []) (kept_in m nl) (kept_in m nr)) where
       like : bare_all (grow (tree_at m d H) (l ∷ [])) ≡ bare_all (grow (tree_at m b H) (l ∷ []))
-      like = both-like len-c first last
+      like = both-like both
 
       uses-b : (q : ℕ) → uses_all (grow (tree_at m b H) (l ∷ [])) q ≡ hit l q + uses_all (grow branch_at cs) q + 0
       uses-b = left-uses cs [] all-parts k len-b all-some few laid
@@ -215,11 +215,11 @@ module _ {C W R : Type 0} {m : Meaning C W R} {a : List (Node C R)} {H l r : ℕ
 
       frame-d : (q : ℕ) → uses tl q ≡ 0 → uses tr q ≡ 0 → slice_get d q ≡ slice_get a q
       frame-d q x y =
-          both-frame len-c first last q (omega (arith, uses-b q, spread cs [] all-parts q))
+          both.frame q (omega (arith, uses-b q, spread cs [] all-parts q))
           ∙ laid.frame q (omega (arith, spread cs [] all-parts q)) (omega (arith, spread cs [] all-parts q))
 
       free-same : spares d f ≡ spares a f
-      free-same = spares-kept a d f (len-d ∙ len-c ∙ len-b) (λ q u. frame-d q (omega (arith, sp.apart q, inside_one (length a) q)) (omega (arith, sp.apart q, inside_one (length a) q)))
+      free-same = spares-kept a d f (len-d ∙ len-b) (λ q u. frame-d q (omega (arith, sp.apart q, inside_one (length a) q)) (omega (arith, sp.apart q, inside_one (length a) q)))
 
       pub right-givable : Givable d f r
       right-givable = givable d f r (spares a f) (omega (arith, within-r)) free-same (omega (arith, sp.apart r, inside_one (length a) r, root-r)) sp.room
@@ -233,7 +233,7 @@ module _ {C W R : Type 0} {m : Meaning C W R} {a : List (Node C R)} {H l r : ℕ
           let one : (j : Key C) → grow (tree_at m b H) (l ∷ []) ≡ more (settled m H l j (children_of tl ⊕ children_of tr)) none =
           λ j. ap (λ t. more t none) (laid.tree j ∙ ap (settled m H l j) e) in
           record {
-            tree = λ j. still ∙ both-seated len-c first last ∙ (λ i. seated m H (kept-r i) (seated m H (kept-l i) (one j i)));
+            tree = λ j. still ∙ both.trees ∙ (λ i. seated m H (kept-r i) (seated m H (kept-l i) (one j i)));
             spares = given ∙ ap (λ qs. r ∷ qs) free-same;
             framed = record {
               frame = λ q x y. frame q (λ v. let u = subst (λ p. uses tr p ≡ 0) v y in omega (arith, root-r)) ∙ frame-d q x y;

@@ -1,8 +1,9 @@
 -- Two neighbours in a table, and what becomes of them.
-use Rattle.std.specs.Prelude.{◌≡◌, ℕ, ◌+◌, ◌-◌, ◌<◌, ◌≤◌, Bool, true, false, cond, List, [], ◌∷◌, length}
+use Rattle.std.specs.Prelude.{◌≡◌, ℕ, ◌+◌, ◌-◌, ◌<◌, ◌≤◌, Bool, true, false, cond, List, [], ◌∷◌, length, Option}
 use Rattle.std.specs.List.{slice_get}
 use Rattle.kinds.specs.Meaning.{Meaning}
 use Rattle.plain.specs.declared.point.Key.{Key}
+use Rattle.plain.specs.declared.point.Point.{Point}
 use Rattle.trees.specs.Tree.{Forest, none, more, ◌⊕◌, grow, count, children_of, kept_by, uses, uses_all}
 use Rattle.trees.specs.Moves.{settled, seated, joined}
 use Rattle.shapes.specs.Shape.{occurs}
@@ -10,6 +11,11 @@ use Rattle.table.specs.declared.node.Node.{Node}
 use Rattle.table.specs.declared.free.Free.{Free}
 use Rattle.table.specs.Spares.{spares}
 use Rattle.table.specs.Reading.{tree_at, inside, Sounds}
+
+-- two points, each if there is one, have joined those kept in the trees of height h at some places, one after the other, and nothing else has changed
+pub record SeatedBoth {C W R : Type 0} (m : Meaning C W R) (a b : List (Node C R)) (h : ℕ) (ps : List ℕ) (o o' : Option (Point C W)) : Type 0 where
+  pub trees : grow (tree_at m b h) ps ≡ seated m h o' (seated m h o (grow (tree_at m a h) ps))
+  pub frame : (q : ℕ) → uses_all (grow (tree_at m a h) ps) q ≡ 0 → slice_get b q ≡ slice_get a q
 
 module _ {C W R : Type 0} (m : Meaning C W R) (a : List (Node C R)) where
   -- two trees of height h, at l and r

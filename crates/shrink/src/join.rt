@@ -3,8 +3,8 @@
 ghost use Rattle.std.specs.Prelude.{◌≡◌, ◌+◌, ◌-◌, ◌<◌, ◌≤◌, true, false, [], ◌∷◌, ◌++◌, length};
 ghost use Rattle.trees.specs.Tree.{◌⊕◌, grow, count, children_of};
 ghost use Rattle.table.specs.Kids.{kids_of};
-ghost use Rattle.table.specs.Reading.{tree_at};
-ghost use Rattle.shrink.specs.Joins.{Neighbours, Poor, Spared, Fused, Shared, Joint};
+ghost use Rattle.table.specs.Reading.{kept_in, tree_at, Sounds};
+ghost use Rattle.shrink.specs.Joins.{SeatedBoth, Neighbours, Poor, Spared, Fused, Shared, Joint};
 
 use kinds::Kind;
 use table::children::{Children, Sides};
@@ -46,6 +46,22 @@ fn to_right(ls: Children, rs: Children) -> Sides
     }
 }
 
+// The points that two nodes kept, if any, join those kept in some trees.
+fn seat_both<K: Kind>(
+    nodes: &mut [Node<K::Coordinate, K::Recorded>],
+    trees: Children,
+    height: u8,
+    first: Node<K::Coordinate, K::Recorded>,
+    last: Node<K::Coordinate, K::Recorded>,
+)
+    requires some { 0 < length (kids_of trees) }
+    requires sounds { Sounds (length nodes.old) height (grow (tree_at K.Kind.meaning nodes.old height) (kids_of trees)) }
+    ensures { SeatedBoth K.Kind.meaning nodes.old nodes.new height (kids_of trees) (kept_in K.Kind.meaning first) (kept_in K.Kind.meaning last) }
+{
+    seat_kept::<K>(nodes, trees, height, first);
+    seat_kept::<K>(nodes, trees, height, last);
+}
+
 // The two become one node, at the place of the left one; the other place is free again.
 fn fuse<K: Kind>(nodes: &mut [Node<K::Coordinate, K::Recorded>], free: &mut Free, pair: Pair)
     requires pair { Neighbours K.Kind.meaning nodes.old pair.height pair.left pair.right }
@@ -60,9 +76,7 @@ fn fuse<K: Kind>(nodes: &mut [Node<K::Coordinate, K::Recorded>], free: &mut Free
         height: pair.height,
     };
     settle::<K>(nodes, tree, first.children.append(last.children));
-    let fused = Children::of(&[pair.left]);
-    seat_kept::<K>(nodes, fused, pair.height, first);
-    seat_kept::<K>(nodes, fused, pair.height, last);
+    seat_both::<K>(nodes, Children::of(&[pair.left]), pair.height, first, last);
     free.give(nodes, pair.right);
 }
 
@@ -87,8 +101,7 @@ fn share<K: Kind>(nodes: &mut [Node<K::Coordinate, K::Recorded>], pair: Pair, ne
     settle::<K>(nodes, left, new.left);
     settle::<K>(nodes, right, new.right);
     let both = Children::of(&[pair.left, pair.right]);
-    seat_kept::<K>(nodes, both, height, first);
-    seat_kept::<K>(nodes, both, height, last);
+    seat_both::<K>(nodes, both, height, first, last);
 }
 
 // Joins two neighbours, of which the left one, or else the right one, has one child. Whether they

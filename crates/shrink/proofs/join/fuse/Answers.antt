@@ -2,7 +2,6 @@ use Rattle.std.proofs.Common.{[], arith}
 use Rattle.table.specs.Kids.{kids_of}
 use Rattle.table.specs.Keys.{key_in}
 use Rattle.table.proofs.Cases.{few}
-use Rattle.shrink.proofs.Basics.{seated-sounds}
 use Rattle.shrink.proofs.Joins.{within-l, within-r, count-l, count-r, all_are, all-parts, all-some, left-sounds, left-off, one-sounds, right-givable, fused}
 use Rattle.shrink.proofs.join.fuse.Goals as goal
 
@@ -28,37 +27,26 @@ settle-requires g c =
       apart = left-off s cs [] (all-parts s cs e n);
     }
 
-pub seat_kept-requires-clause-sounds : goal.seat_kept-requires-clause-sounds
-seat_kept-requires-clause-sounds g c =
+pub seat_both-requires-clause-sounds : goal.seat_both-requires-clause-sounds
+seat_both-requires-clause-sounds g c =
     let s = c.requires.pair in
     let cs = kids_of c.append.result in
     let e = all_are s c.read-first.ensures c.read-last.ensures cs c.append.ensures in
     let n = few c.append.result in
-    rw c.of-fused.ensures (one-sounds s cs [] (all-parts s cs e n) (key_in c.read-first.result.own) c.settle.auto.nodes (all-some s cs e n) n c.settle.ensures)
-
-pub seat_kept-requires-2-clause-sounds : goal.seat_kept-requires-2-clause-sounds
-seat_kept-requires-2-clause-sounds g c =
-    let s = c.requires.pair in
-    let cs = kids_of c.append.result in
-    let e = all_are s c.read-first.ensures c.read-last.ensures cs c.append.ensures in
-    let n = few c.append.result in
-    let first = rw c.of-fused.ensures at c.seat_kept.ensures in
-    rw c.of-fused.ensures (seated-sounds c.seat_kept.auto.nodes first (one-sounds s cs [] (all-parts s cs e n) (key_in c.read-first.result.own) c.settle.auto.nodes (all-some s cs e n) n c.settle.ensures))
+    rw c.of.ensures (one-sounds s cs [] (all-parts s cs e n) (key_in c.read-first.result.own) c.settle.auto.nodes (all-some s cs e n) n c.settle.ensures)
 
 pub give-requires : goal.give-requires
 give-requires g c =
     let s = c.requires.pair in
     let cs = kids_of c.append.result in
     let e = all_are s c.read-first.ensures c.read-last.ensures cs c.append.ensures in
-    let first = rw c.of-fused.ensures at c.seat_kept.ensures in
-    let last = rw c.of-fused.ensures at c.seat_kept-2.ensures in
-    right-givable s cs e (few c.append.result) c.requires.spared c.read-first.ensures c.read-last.ensures (key_in c.read-first.result.own) c.settle.auto.nodes c.seat_kept.auto.nodes c.seat_kept-2.auto.nodes c.settle.ensures first last
+    let both = rw c.of.ensures at c.seat_both.ensures in
+    right-givable s cs e (few c.append.result) c.requires.spared c.read-first.ensures c.read-last.ensures (key_in c.read-first.result.own) c.settle.auto.nodes c.seat_both.auto.nodes c.settle.ensures both
 
 pub returns : goal.returns
 returns g c =
     let s = c.requires.pair in
     let cs = kids_of c.append.result in
     let e = all_are s c.read-first.ensures c.read-last.ensures cs c.append.ensures in
-    let first = rw c.of-fused.ensures at c.seat_kept.ensures in
-    let last = rw c.of-fused.ensures at c.seat_kept-2.ensures in
-    fused s cs e (few c.append.result) c.requires.spared c.read-first.ensures c.read-last.ensures (key_in c.read-first.result.own) c.settle.auto.nodes c.seat_kept.auto.nodes c.seat_kept-2.auto.nodes c.settle.ensures first last c.give.ensures.spares c.give.ensures.frame
+    let both = rw c.of.ensures at c.seat_both.ensures in
+    fused s cs e (few c.append.result) c.requires.spared c.read-first.ensures c.read-last.ensures (key_in c.read-first.result.own) c.settle.auto.nodes c.seat_both.auto.nodes c.settle.ensures both c.give.ensures.spares c.give.ensures.frame

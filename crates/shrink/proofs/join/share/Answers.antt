@@ -2,7 +2,6 @@ use Rattle.std.proofs.Common.{arith}
 use Rattle.table.specs.Kids.{kids_of}
 use Rattle.table.specs.Keys.{key_in}
 use Rattle.table.proofs.Cases.{few}
-use Rattle.shrink.proofs.Basics.{seated-sounds}
 use Rattle.shrink.proofs.Joins.{within-l, within-r, left-sounds, left-off, right-sounds-now, right-off-now, two-sounds, shared}
 use Rattle.shrink.proofs.join.share.Goals as goal
 
@@ -39,22 +38,13 @@ settle-requires-2 g c =
       apart = right-off-now s xs ys c.requires.same k c.settle.auto.nodes c.requires.some.0 (few c.args.new.left) c.settle.ensures;
     }
 
-pub seat_kept-requires-clause-sounds : goal.seat_kept-requires-clause-sounds
-seat_kept-requires-clause-sounds g c =
+pub seat_both-requires-clause-sounds : goal.seat_both-requires-clause-sounds
+seat_both-requires-clause-sounds g c =
     let s = c.requires.pair in
     let xs = kids_of c.args.new.left in
     let ys = kids_of c.args.new.right in
     let k = key_in c.read-first.result.own in
     rw c.of-both.ensures (two-sounds s xs ys c.requires.same k c.settle.auto.nodes c.requires.some.0 (few c.args.new.left) c.settle.ensures c.settle-2.auto.nodes c.requires.some.1 (few c.args.new.right) c.settle-2.ensures)
-
-pub seat_kept-requires-2-clause-sounds : goal.seat_kept-requires-2-clause-sounds
-seat_kept-requires-2-clause-sounds g c =
-    let s = c.requires.pair in
-    let xs = kids_of c.args.new.left in
-    let ys = kids_of c.args.new.right in
-    let k = key_in c.read-first.result.own in
-    let first = rw c.of-both.ensures at c.seat_kept.ensures in
-    rw c.of-both.ensures (seated-sounds c.seat_kept.auto.nodes first (two-sounds s xs ys c.requires.same k c.settle.auto.nodes c.requires.some.0 (few c.args.new.left) c.settle.ensures c.settle-2.auto.nodes c.requires.some.1 (few c.args.new.right) c.settle-2.ensures))
 
 pub returns : goal.returns
 returns g c =
@@ -62,6 +52,5 @@ returns g c =
     let xs = kids_of c.args.new.left in
     let ys = kids_of c.args.new.right in
     let k = key_in c.read-first.result.own in
-    let first = rw c.of-both.ensures at c.seat_kept.ensures in
-    let last = rw c.of-both.ensures at c.seat_kept-2.ensures in
-    shared s xs ys c.requires.same k c.settle.auto.nodes c.requires.some.0 (few c.args.new.left) c.settle.ensures c.settle-2.auto.nodes c.requires.some.1 (few c.args.new.right) c.settle-2.ensures c.read-first.ensures c.read-last.ensures c.seat_kept.auto.nodes first last
+    let both = rw c.of-both.ensures at c.seat_both.ensures in
+    shared s xs ys c.requires.same k c.settle.auto.nodes c.requires.some.0 (few c.args.new.left) c.settle.ensures c.settle-2.auto.nodes c.requires.some.1 (few c.args.new.right) c.settle-2.ensures c.read-first.ensures c.read-last.ensures both
