@@ -3,3 +3,4 @@ pub mod Forests
 pub mod Rewritten
 pub mod Standing
 pub mod Theorems
+pub mod Single
