@@ -42,9 +42,8 @@ fn reweigh_below<K: Kind>(
 }
 
 // The point of a key gets another weight.
-// `Standing` is a premise: the tree's functions take the caller's table as a slice. Tried as a ghost
-// field of a struct of table and header: it goes by recursion, so a field holds it truncated, which
-// proves no call's premise.
+// `Standing` is a premise: a function of the tree takes the caller's table as a slice, by a rule of the
+// project. A struct of table and header can hold it in a ghost field (`tree/specs/Single.antt`).
 pub fn change<K: Kind>(
     nodes: &mut [Node<K::Coordinate, K::Recorded>],
     header: Header,

@@ -1,4 +1,5 @@
-// How many points there are in a tree, and how many are kept.
+// How many points there are in a tree, and how many are kept; of trees of one height, which have no
+// root in common.
 ghost use Rattle.std.specs.Prelude.{◌≡◌, length};
 ghost use Rattle.std.specs.Option.{option_to_list};
 ghost use Rattle.trees.specs.Tree.{grow};

@@ -1,4 +1,4 @@
-// Whether a point stands in some trees.
+// Whether a point stands in some trees of one height, which have no root in common.
 ghost use Rattle.std.specs.Prelude.{◌≡◌, true};
 ghost use Rattle.std.specs.List.{ContainsAt};
 ghost use Rattle.trees.specs.Tree.{grow, points_all};

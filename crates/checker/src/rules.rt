@@ -1,4 +1,4 @@
-// The rules of the tree, tested node by node.
+// The rules of the tree, tested node by node, in trees of one height, which have no root in common.
 ghost use Rattle.std.specs.Prelude.{◌≡◌, true, Some, None};
 ghost use Rattle.plain.specs.Points.{FitPoint};
 ghost use Rattle.std.specs.List.{ContainsAt, AllByRecursion};

@@ -1,4 +1,5 @@
-// Commands that change the set, each with its reply.
+// Commands that change the set, each with its reply. The two arms of a reply are a line each: one
+// function for them would need a definition of its own.
 ghost use Rattle.script.specs.Replies.{Obeyed};
 
 use crate::session::Session;

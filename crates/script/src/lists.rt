@@ -1,4 +1,4 @@
-// Points listed one to a line.
+// Points listed one to a line: a function and no `Display`, since a slice is no type of this crate.
 ghost use Rattle.std.specs.Prelude.{◌≡◌, ◌++◌, OnOk, string_bytes};
 ghost use Rattle.script.specs.Text.{first_text};
 

@@ -9,7 +9,7 @@ use std::alloc::{AllocError, Global};
 
 const MOST_BYTES: usize = 60_000;
 
-// What a script prints; a script that is too long is refused before any line is run.
+// What a script prints, as bytes for the writer; a script that is too long is refused before any line is run.
 pub fn report(heap: Global, script: &[u8]) -> Result<Vec<u8>, AllocError>
     ensures { IfOk result (λ v. Report script.now v.items) }
 {

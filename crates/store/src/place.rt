@@ -7,7 +7,7 @@ ghost use Rattle.store.specs.Places.{StandsAt, GoesAt};
 use kinds::Small;
 use plain::{Key, Point, key_order};
 
-pub fn place(points: &[Point<u64, f32>], key: Key<u64>) -> Result<usize, usize>
+pub(crate) fn place(points: &[Point<u64, f32>], key: Key<u64>) -> Result<usize, usize>
     requires { Rising small points.now }
     ensures { MatchResult result (StandsAt key points.now) (GoesAt key points.now) }
 {

@@ -14,7 +14,7 @@ abbrev pub chain : {C R : Type 0} → List (Node C R) → ℕ → ℕ → List �
 chain ns zero p = []
 chain ns (suc k) p = p ∷ chain ns k (link_of (slice_get ns p))
 
--- so many places in a row, from p on
+-- so many places in a row, from p on (the library's range_with_len steps by + 1, and the proofs here by suc)
 abbrev pub row : ℕ → ℕ → List ℕ
 row zero p = []
 row (suc k) p = p ∷ row k (suc p)

@@ -1,6 +1,7 @@
 // The places of a node's children, from the left: at most four. An array with a count, since a node
 // lies in a table of fixed size and is copied (the kit's `ArrayVec` is not `Copy`); the casts lose
-// nothing, as the check proves, and have no `From`.
+// nothing, as the check proves, and have no `From`. There may be none, as at a leaf: who needs a child
+// asks for one.
 ghost use Rattle.std.specs.Prelude.{◌≡◌, ◌+◌, ◌<◌, ◌≤◌, [], ◌∷◌, ◌++◌, length, take, drop, slice_index};
 ghost use Rattle.table.specs.Kids.{kids_of};
 

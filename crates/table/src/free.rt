@@ -1,6 +1,7 @@
 // The places of a table that hold no node of the tree: some are chained, each with the place of
 // the next, and those from `fresh` on were never used. The chain lies in the nodes themselves: a
-// table has a fixed size, and nothing else to keep it in.
+// table has a fixed size, and nothing else to keep it in. The slice is passed beside it: functions of
+// the tree take the caller's table as a slice.
 ghost use Rattle.std.specs.Prelude.{◌≡◌, ℕ, ◌+◌, ◌<◌, ◌≤◌, ◌∷◌, length, Some, ◌≢◌};
 ghost use Rattle.std.specs.List.{slice_get, AllByRecursion};
 ghost use Rattle.table.specs.Spares.{link_of, spares};

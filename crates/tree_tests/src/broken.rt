@@ -2,7 +2,6 @@
 use crate::checks::check;
 use crate::runs::{Order, blank, sweep};
 use crate::trial::{Act, Points, Trial};
-use build::build::build;
 use checker::rules::holds_rules;
 use kinds::Small;
 use std::collections::BTreeMap;
@@ -62,20 +61,14 @@ fn others(header: Header) -> [Header; 4] {
     higher.top.height = header.top.height ^ 1;
     let mut highest = header;
     highest.top.height = 255;
-    let mut fewer = header;
-    fewer.count = header.count ^ 1;
-    [elsewhere, higher, highest, fewer]
+    let mut miscounted = header;
+    miscounted.count = header.count ^ 1;
+    [elsewhere, higher, highest, miscounted]
 }
 
 // A tree of twenty points, altered in each way at each place, and under each other header.
 fn all_ways(nodes: &mut [Node<u64, u32>], points: &mut Points) -> Result<(), Fail> {
-    check(nodes.len() <= 32767, "a table of nodes")?;
-    let header = build::<Small>(nodes, 0);
-    let mut trial = Trial {
-        nodes,
-        header,
-        points,
-    };
+    let mut trial = Trial::<Small>::empty(nodes, points)?;
     sweep::<Small>(&mut trial, Act::Insert, Order::Inwards, 20, false)?;
     let Trial { nodes, header, .. } = trial;
     check(header.count == 20, "twenty points")?;

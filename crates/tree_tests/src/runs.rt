@@ -1,12 +1,11 @@
 // Runs of changes: keys that rise, that fall or that meet in the middle, and keys by chance.
-ghost use Rattle.tree.specs.Standing.{Standing};
-
 use crate::checks::check;
 use crate::trial::{Act, Points, Pt, Trial};
 use build::build::build;
 use build::leaf::lay_leaf;
 use kinds::{Kind, Large, Small};
 use std::collections::BTreeMap;
+use std::marker::PhantomData;
 use std::test::Fail;
 use table::children::Children;
 use table::node::{Node, Stored};
@@ -46,18 +45,15 @@ pub fn point_of(order: Order, i: u32) -> Pt {
 
 // One change for each of the first n points of an order, from the first on or from the last back.
 pub fn sweep<K: Kind<Coordinate = u64, Recorded = u32>>(
-    trial: &mut Trial<'_>,
+    trial: &mut Trial<'_, K>,
     act: Act,
     order: Order,
     n: u32,
     back: bool,
-) -> Result<(), Fail>
-    requires { Standing K.Kind.meaning trial.old.nodes.now trial.old.header }
-    ensures { Standing K.Kind.meaning trial.new.nodes.now trial.new.header }
-{
+) -> Result<(), Fail> {
     for i in 0..n {
         let k = if back { n - 1 - i } else { i };
-        trial.step::<K>(act, point_of(order, k))?;
+        trial.step(act, point_of(order, k))?;
     }
     Ok(())
 }
@@ -102,17 +98,14 @@ fn chance_point(seed: u64, odds: Odds) -> Pt {
 
 // So many changes by chance.
 fn churn<K: Kind<Coordinate = u64, Recorded = u32>>(
-    trial: &mut Trial<'_>,
+    trial: &mut Trial<'_, K>,
     odds: Odds,
     n: u32,
-) -> Result<(), Fail>
-    requires { Standing K.Kind.meaning trial.old.nodes.now trial.old.header }
-    ensures { Standing K.Kind.meaning trial.new.nodes.now trial.new.header }
-{
+) -> Result<(), Fail> {
     let mut seed = 0x9E37_79B9_7F4A_7C15;
     for _ in 0..n {
         seed = next(seed);
-        trial.step::<K>(act_of(seed, odds.inserts), chance_point(seed, odds))?;
+        trial.step(act_of(seed, odds.inserts), chance_point(seed, odds))?;
     }
     Ok(())
 }
@@ -120,13 +113,10 @@ fn churn<K: Kind<Coordinate = u64, Recorded = u32>>(
 // The sweeps of one order: all points in, other weights, all points out from the same end; then in
 // again, and out from the other end.
 fn sweeps<K: Kind<Coordinate = u64, Recorded = u32>>(
-    trial: &mut Trial<'_>,
+    trial: &mut Trial<'_, K>,
     order: Order,
     n: u32,
-) -> Result<(), Fail>
-    requires { Standing K.Kind.meaning trial.old.nodes.now trial.old.header }
-    ensures { Standing K.Kind.meaning trial.new.nodes.now trial.new.header }
-{
+) -> Result<(), Fail> {
     sweep::<K>(trial, Act::Insert, order, n, false)?;
     sweep::<K>(trial, Act::Change, order, n, true)?;
     sweep::<K>(trial, Act::Remove, order, n, false)?;
@@ -140,13 +130,7 @@ fn all_sweeps<K: Kind<Coordinate = u64, Recorded = u32>>(
     points: &mut Points,
     n: u32,
 ) -> Result<(), Fail> {
-    check(nodes.len() <= 32767, "a table of nodes")?;
-    let header = build::<K>(nodes, 0);
-    let mut trial = Trial {
-        nodes,
-        header,
-        points,
-    };
+    let mut trial = Trial::<K>::empty(nodes, points)?;
     sweeps::<K>(&mut trial, Order::Rising, n)?;
     sweeps::<K>(&mut trial, Order::Falling, n)?;
     sweeps::<K>(&mut trial, Order::Inwards, n)?;
@@ -160,14 +144,7 @@ fn all_chances<K: Kind<Coordinate = u64, Recorded = u32>>(
     points: &mut Points,
     n: u32,
 ) -> Result<(), Fail> {
-    check(nodes.len() <= 32767, "a table of nodes")?;
-    let header = build::<K>(nodes, 0);
-    points.clear();
-    let mut trial = Trial {
-        nodes,
-        header,
-        points,
-    };
+    let mut trial = Trial::<K>::empty(nodes, points)?;
     let wide = 0xFFFF_FFFF;
     let full = Odds {
         coordinates: 255,
@@ -231,12 +208,13 @@ fn built<K: Kind<Coordinate = u64, Recorded = u32>>(
         points.insert(x.key(), x.weight)?;
     }
     let header = build::<K>(nodes, n);
-    let mut trial = Trial {
+    let mut trial: Trial<'_, K> = Trial {
         nodes,
         header,
         points,
+        kind: PhantomData,
     };
-    trial.verify::<K>()?;
+    trial.verify()?;
     let odds = Odds {
         coordinates: 63,
         numbers: 0,

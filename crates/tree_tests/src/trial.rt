@@ -1,9 +1,12 @@
 // A tree in a table, and the same points in a map beside it: one change of both, and the tests after
 // it.
 ghost use Rattle.std.specs.Prelude.{◌≡◌, suc, ◌*◌, ◌≤◌, true, length};
+ghost use Rattle.std.specs.Coded.{coded_ℕ};
+ghost use Rattle.tree.specs.Single.{standing_prop};
 ghost use Rattle.tree.specs.Standing.{Standing};
 
 use crate::checks::check;
+use build::build::build;
 use change::change::change;
 use change::find::find;
 use checker::rules::holds_rules;
@@ -12,6 +15,7 @@ use kinds::Kind;
 use plain::Key;
 use shrink::whole::remove;
 use std::collections::BTreeMap;
+use std::marker::PhantomData;
 use std::test::Fail;
 use table::header::Header;
 use table::node::{Node, Stored};
@@ -30,16 +34,29 @@ pub enum Act {
     Change,
 }
 
-// That a tree stands there is a premise of its methods, and no ghost field: it goes by recursion, so a
-// field would hold it truncated, which proves no call's premise.
 #[derive(Drop)]
-pub struct Trial<'a> {
+pub struct Trial<'a, K: Kind<Coordinate = u64, Recorded = u32>> {
     pub nodes: &'a mut [Node<u64, u32>],
     pub header: Header,
     pub points: &'a mut Points,
+    pub kind: PhantomData<K>,
+    ghost standing: { Standing K.Kind.meaning nodes.now header } by { standing_prop coded_ℕ K.Kind.meaning nodes.now header },
 }
 
-impl<'a> Trial<'a> {
+impl<'a, K: Kind<Coordinate = u64, Recorded = u32>> Trial<'a, K> {
+    // A tree of no points in a table.
+    pub fn empty(nodes: &'a mut [Node<u64, u32>], points: &'a mut Points) -> Result<Self, Fail> {
+        check(nodes.len() <= 32767, "a table of nodes")?;
+        let header = build::<K>(nodes, 0);
+        points.clear();
+        Ok(Trial {
+            nodes,
+            header,
+            points,
+            kind: PhantomData,
+        })
+    }
+
     // Whether the table has room for one point more.
     fn has_room(&self) -> bool
         ensures { result ≡ true → 2 * suc self.now.header.count ≤ suc (length self.now.nodes.now) }
@@ -49,14 +66,7 @@ impl<'a> Trial<'a> {
 
     // Makes one change, in the tree and in the map: an insertion if the key does not stand and
     // there is room, else a removal or another weight if it stands.
-    fn make<K: Kind<Coordinate = u64, Recorded = u32>>(
-        &mut self,
-        act: Act,
-        x: Pt,
-    ) -> Result<(), Fail>
-        requires { Standing K.Kind.meaning self.old.nodes.now self.old.header }
-        ensures { Standing K.Kind.meaning self.new.nodes.now self.new.header }
-    {
+    fn make(&mut self, act: Act, x: Pt) -> Result<(), Fail> {
         let key = x.key();
         let stands = self.points.contains_key(&key);
         match act {
@@ -83,9 +93,7 @@ impl<'a> Trial<'a> {
     }
 
     // The rules hold, and the tree has just the points of the map.
-    pub fn verify<K: Kind<Coordinate = u64, Recorded = u32>>(&self) -> Result<(), Fail>
-        requires { Standing K.Kind.meaning self.now.nodes.now self.now.header }
-    {
+    pub fn verify(&self) -> Result<(), Fail> {
         check(holds_rules::<K>(self.nodes, self.header), "the rules hold")?;
         check(
             usize::from(self.header.count) == self.points.len(),
@@ -100,15 +108,8 @@ impl<'a> Trial<'a> {
     }
 
     // Makes one change and tests what stands then.
-    pub fn step<K: Kind<Coordinate = u64, Recorded = u32>>(
-        &mut self,
-        act: Act,
-        x: Pt,
-    ) -> Result<(), Fail>
-        requires { Standing K.Kind.meaning self.old.nodes.now self.old.header }
-        ensures { Standing K.Kind.meaning self.new.nodes.now self.new.header }
-    {
-        self.make::<K>(act, x)?;
-        self.verify::<K>()
+    pub fn step(&mut self, act: Act, x: Pt) -> Result<(), Fail> {
+        self.make(act, x)?;
+        self.verify()
     }
 }

@@ -72,6 +72,7 @@ pub fn range_walk<K: Kind>(
         depth: 1,
     };
     let mut matches = 0;
+    // An answer, and the index of nothing.
     let mut visited = 0;
     // Until no entry is left: the walk puts entries where it takes them.
     while let Some(next) = stack.pop() {
