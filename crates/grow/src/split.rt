@@ -1,7 +1,9 @@
 // A full node and one child more: two nodes.
-ghost use Rattle.std.specs.Prelude.{◌≡◌, ◌<◌, length, take, drop};
+ghost use Rattle.std.specs.Prelude.{◌≡◌, ◌<◌, [], ◌∷◌, length, take, drop};
+ghost use Rattle.trees.specs.Tree.{grow};
 ghost use Rattle.table.specs.Kids.{kids_of};
-ghost use Rattle.table.specs.Reading.{kept_in};
+ghost use Rattle.table.specs.Reading.{kept_in, tree_at, Sounds};
+ghost use Rattle.tree.specs.Forests.{Seated};
 ghost use Rattle.grow.specs.Grown.{half};
 ghost use Rattle.grow.specs.Split.{Apart, Split, with_next};
 
@@ -31,6 +33,20 @@ pub fn halve(children: Children, i: usize, next: u16) -> Sides
     }
 }
 
+// What a node kept goes to the one of two trees with its leaf.
+fn seat_half<K: Kind>(
+    nodes: &mut [Node<K::Coordinate, K::Recorded>],
+    at: u16,
+    next: u16,
+    height: u8,
+    node: Node<K::Coordinate, K::Recorded>,
+)
+    requires { Sounds (length nodes.old) height (grow (tree_at K.Kind.meaning nodes.old height) (at ∷ next ∷ [])) }
+    ensures { Seated K.Kind.meaning nodes.old nodes.new height (at ∷ next ∷ []) (kept_in K.Kind.meaning node) }
+{
+    seat_kept::<K>(nodes, Children::of(&[at, next]), height, node);
+}
+
 // Lays two nodes over the two parts; what the node kept goes to the half with its leaf.
 pub fn split<K: Kind>(
     nodes: &mut [Node<K::Coordinate, K::Recorded>],
@@ -44,5 +60,5 @@ pub fn split<K: Kind>(
 {
     settle::<K>(nodes, tree, halves.left);
     settle::<K>(nodes, Subtree { root: next, ..tree }, halves.right);
-    seat_kept::<K>(nodes, Children::of(&[tree.root, next]), tree.height, node);
+    seat_half::<K>(nodes, tree.root, next, tree.height, node);
 }

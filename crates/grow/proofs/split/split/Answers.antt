@@ -14,8 +14,8 @@ settle-requires-2-clause-sounds g c = rights-sound c.requires c.settle.auto.node
 pub settle-requires-2-clause-apart : goal.settle-requires-2-clause-apart
 settle-requires-2-clause-apart g c = q-off c.requires c.settle.auto.nodes c.settle.ensures
 
-pub seat_kept-requires-clause-sounds : goal.seat_kept-requires-clause-sounds
-seat_kept-requires-clause-sounds g c = rw (c.of.ensures) (both-sound c.requires c.settle.auto.nodes c.settle.ensures c.settle-2.auto.nodes c.settle-2.ensures (key_in c.args.node.own))
+pub seat_half-requires : goal.seat_half-requires
+seat_half-requires g c = both-sound c.requires c.settle.auto.nodes c.settle.ensures c.settle-2.auto.nodes c.settle-2.ensures (key_in c.args.node.own)
 
 pub returns : goal.returns
-returns g c = split_done c.requires c.settle.auto.nodes c.settle.ensures c.settle-2.auto.nodes c.settle-2.ensures (key_in c.args.node.own) (rw (c.of.ensures) at c.seat_kept.ensures)
+returns g c = split_done c.requires c.settle.auto.nodes c.settle.ensures c.settle-2.auto.nodes c.settle-2.ensures (key_in c.args.node.own) c.seat_half.ensures
