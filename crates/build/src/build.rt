@@ -1,4 +1,4 @@
-// A tree over leaves, level upon level.
+// A tree over leaves, level upon level, in a table that is lent: how large it is, is asked.
 ghost use Rattle.std.specs.Prelude.{◌≡◌, suc, ◌+◌, ◌*◌, ◌<◌, ◌≤◌, length};
 ghost use Rattle.refusals.specs.Limits.{most_nodes};
 ghost use Rattle.plain.specs.declared.point.Key.{Key};

@@ -13,7 +13,7 @@ abbrev pub occurs : ℕ → List ℕ → ℕ
 occurs q [] = 0
 occurs q (p ∷ ps) = hit p q + occurs q ps
 
--- so many places in a row, from p on (this crate stands below the table, which has a row of its own)
+-- so many places in a row, from p on (the library's range_with_len steps by + 1, and the proofs here by suc)
 abbrev pub row : ℕ → ℕ → List ℕ
 row zero p = []
 row (suc n) p = p ∷ row n (suc p)

@@ -1,4 +1,4 @@
-// A point more in the whole tree.
+// A point more in the whole tree, in a table that is lent: how large it is, is asked.
 ghost use Rattle.std.specs.Prelude.{◌≡◌, ℕ, suc, ◌*◌, ◌<◌, ◌≤◌, false, length};
 ghost use Rattle.std.specs.List.{AllByRecursion};
 ghost use Rattle.plain.specs.Points.{FitPoint};

@@ -1,4 +1,5 @@
-// A command, run on the set.
+// A command, run on the set. Keys and windows are made here, of a command's fields: the grammar names
+// those one by one.
 ghost use Rattle.script.specs.Replies.{Obeyed};
 
 use crate::session::Session;

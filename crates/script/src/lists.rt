@@ -1,4 +1,5 @@
-// Points listed one to a line: a function and no `Display`, since a slice is no type of this crate.
+// Points listed one to a line: a function and no `Display`, which would need a struct round the slice,
+// for one caller.
 ghost use Rattle.std.specs.Prelude.{◌≡◌, ◌++◌, OnOk, string_bytes};
 ghost use Rattle.script.specs.Text.{first_text};
 

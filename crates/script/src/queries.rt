@@ -1,4 +1,5 @@
-// Commands that read the set, each with its reply.
+// Commands that read the set, each with its reply. The arm of a refusal is a line in each: what stands
+// beside it differs.
 ghost use Rattle.std.specs.Prelude.{◌≡◌, ◌++◌, length, OnOk, string_bytes};
 ghost use Rattle.kinds.specs.Kinds.{small};
 ghost use Rattle.plain.specs.Windows.{firsts};

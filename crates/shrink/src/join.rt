@@ -62,6 +62,8 @@ fn seat_both<K: Kind>(
     seat_kept::<K>(nodes, trees, height, last);
 }
 
+// `Neighbours` is a premise here and below: a fact about the table lent beside the pair.
+//
 // The two become one node, at the place of the left one; the other place is free again.
 fn fuse<K: Kind>(nodes: &mut [Node<K::Coordinate, K::Recorded>], free: &mut Free, pair: Pair)
     requires pair { Neighbours K.Kind.meaning nodes.old pair.height pair.left pair.right }

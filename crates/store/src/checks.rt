@@ -1,4 +1,5 @@
-// What refuses a call: its tests, in the order in which they run.
+// What refuses a call: its tests, in the order in which they run. Each function is its own list of
+// tests, though both begin with the same one.
 ghost use Rattle.kinds.specs.Kinds.{small};
 ghost use Rattle.plain.specs.Refused.{range_refused, frontier_refused};
 ghost use Rattle.store.specs.Residuals.{room, Answered};

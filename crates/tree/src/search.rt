@@ -1,4 +1,5 @@
-// The way down the tree: which child to go to.
+// The way down the tree: which child to go to. That there are children, in the table, is asked: the
+// table is lent beside them, and a leaf has none.
 ghost use Rattle.std.specs.Prelude.{◌≡◌, ◌<◌, length, if◌then◌else◌};
 ghost use Rattle.std.specs.List.{slice_get, AllByRecursion};
 ghost use Rattle.std.specs.Ordering.{is_lt};

@@ -1,4 +1,5 @@
-// Trees that a walk has yet to go to, kept as a stack: the entry that joined last is taken first.
+// Trees that a walk has yet to go to, kept as a stack: the entry that joined last is taken first. The
+// children of a node are trees of one height, each with a root of its own, in a table that is lent.
 ghost use Rattle.std.specs.Prelude.{◌≡◌, ◌+◌, ◌<◌, ◌≤◌, not, [], ◌∷◌, ◌++◌, length, MatchOption};
 ghost use Rattle.std.specs.List.{AllByRecursion};
 ghost use Rattle.plain.specs.Windows.{later};
