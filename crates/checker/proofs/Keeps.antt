@@ -4,6 +4,7 @@ use base.Stored.{Coded}
 use Rattle.std.specs.Ordering.{is_lt}
 use Rattle.std.specs.Option.{option_to_list}
 use Rattle.std.specs.List.{ContainsAt, AllByRecursion}
+use Rattle.std.proofs.lemmas.Bool.{both_ways}
 use Rattle.std.proofs.ByRecursion.{All-append, All-weaker, all-has, has_append_left, has_append_right}
 use Rattle.kinds.specs.Meaning.{Meaning, First, Second}
 use Rattle.plain.specs.declared.point.Key.{Key}
@@ -15,7 +16,7 @@ use Rattle.trees.specs.Tree.{Tree, Forest, gone, leaf, fork, none, more, kept_by
 use Rattle.trees.specs.Rules.{kept, kept_all, OnPath, OnPathAll, Filled, FilledAll, Ranked, RankedAll}
 use Rattle.trees.specs.Heap.{total, held, tally, tally_all}
 use Rattle.trees.proofs.Forests.{total-++}
-use Rattle.kept.proofs.Ranks.{clash, rank-carry, rank-asym, rank-self}
+use Rattle.kept.proofs.Ranks.{rank-carry, rank-asym, rank-self}
 use Rattle.kept.proofs.Sums.{total-none}
 use Rattle.kept.proofs.Tells.{kept-totals}
 use Rattle.kept.proofs.Apart.{all_of, around, member-le, is, is-self, tell, member}
@@ -63,7 +64,7 @@ module _ {C W R : Type 0} (m : Meaning C W R) where
       where
         go : (b : Bool) → is_lt (rank_order m x z) ≡ b → rank_order m x z ≡ Less
         go true e = lt-less (rank_order m x z) e
-        go false e = clash (ap is_lt q) (rank-carry m first second y x z fy fx fz (rank-asym m first second x y fx fy (ap is_lt p)) e)
+        go false e = absurd (both_ways _ (rank-carry m first second y x z fy fx fz (rank-asym m first second x y fx fy (ap is_lt p)) e) (ap is_lt q))
 
     -- what comes after a point that comes after o comes after o
     after-carries : (o q : Option (Point C W)) (zs : List (Point C W)) → AllFit m (option_to_list o) → AllFit m (option_to_list q) → AllFit m zs → AllByRecursion (After m o) (option_to_list q) → AllByRecursion (After m q) zs → AllByRecursion (After m o) zs
@@ -133,7 +134,7 @@ module _ {C W R : Type 0} (m : Meaning C W R) where
         where
           go : (is kc kw x y ≡ 0) ⊎ (x ≡ y) → is kc kw x y ≡ 0
           go (inl e) = e
-          go (inr e) = clash (ap is_lt (subst (λ w. rank_order m x w ≡ Less) (sym e) l)) (rank-self m first second x fx)
+          go (inr e) = absurd (both_ways _ (rank-self m first second x fx) (ap is_lt (subst (λ w. rank_order m x w ≡ Less) (sym e) l)))
 
       -- a point kept at a fork, and those kept below it
       held-once : (o : Option (Point C W)) (ts : Forest C W) (z : Point C W) → AllByRecursion (ContainsAt (points_all ts)) (option_to_list o) → AllFit m (option_to_list o) → AllByRecursion (After m o) (kept_all ts) → tally_all ts (is kc kw z) ≤ total (is kc kw z) (points_all ts) → held (is kc kw z) o + tally_all ts (is kc kw z) ≤ total (is kc kw z) (points_all ts)

@@ -36,15 +36,14 @@ pub fn halve(children: Children, i: usize, next: u16) -> Sides
 // What a node kept goes to the one of two trees with its leaf.
 fn seat_half<K: Kind>(
     nodes: &mut [Node<K::Coordinate, K::Recorded>],
-    at: u16,
+    tree: Subtree,
     next: u16,
-    height: u8,
     node: Node<K::Coordinate, K::Recorded>,
 )
-    requires { Sounds (length nodes.old) height (grow (tree_at K.Kind.meaning nodes.old height) (at ∷ next ∷ [])) }
-    ensures { Seated K.Kind.meaning nodes.old nodes.new height (at ∷ next ∷ []) (kept_in K.Kind.meaning node) }
+    requires { Sounds (length nodes.old) tree.height (grow (tree_at K.Kind.meaning nodes.old tree.height) (tree.root ∷ next ∷ [])) }
+    ensures { Seated K.Kind.meaning nodes.old nodes.new tree.height (tree.root ∷ next ∷ []) (kept_in K.Kind.meaning node) }
 {
-    seat_kept::<K>(nodes, Children::of(&[at, next]), height, node);
+    seat_kept::<K>(nodes, Children::of(&[tree.root, next]), tree.height, node);
 }
 
 // Lays two nodes over the two parts; what the node kept goes to the half with its leaf.
@@ -60,5 +59,5 @@ pub fn split<K: Kind>(
 {
     settle::<K>(nodes, tree, halves.left);
     settle::<K>(nodes, Subtree { root: next, ..tree }, halves.right);
-    seat_half::<K>(nodes, tree.root, next, tree.height, node);
+    seat_half::<K>(nodes, tree, next, node);
 }

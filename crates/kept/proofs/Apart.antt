@@ -3,13 +3,12 @@ use Rattle.std.proofs.Common.{◌≡◌, ℕ, ◌+◌, ◌≤◌, Bool, true, fa
 use base.Stored.{Gv, gnil, gnum, gcons, Coded}
 use Rattle.std.specs.List.Sorted.{IsPermutation}
 use Rattle.std.specs.List.{ContainsAt, AllByRecursion}
-use Rattle.std.proofs.lemmas.Bool.{eqb-true, eq-eqb, cond-true}
+use Rattle.std.proofs.lemmas.Bool.{both_ways, eqb-true, eq-eqb, cond-true}
 use Rattle.std.proofs.ByRecursion.{has_append_right}
-use Rattle.std.proofs.lemmas.List.Sorted.{IsPermutation-refl, IsPermutation-cons, IsPermutation-swap, IsPermutation-trans}
+use Rattle.std.proofs.lemmas.List.Sorted.{IsPermutation-refl, IsPermutation-cons, IsPermutation-trans, IsPermutation-sym, IsPermutation-middle}
 use Rattle.plain.specs.declared.point.Point.{Point}
 use Rattle.trees.specs.Heap.{total}
 use Rattle.trees.proofs.Forests.{total-++}
-use Rattle.kept.proofs.Ranks.{clash}
 
 -- ---- codes are equal or not
 abbrev same : Gv → Gv → Bool
@@ -30,18 +29,18 @@ same_self (gcons a b) = rw (same_self a, same_self b)
 
 same-is : (a b : Gv) → same a b ≡ true → a ≡ b
 same-is gnil gnil e = refl
-same-is gnil (gnum n) e = clash e refl
-same-is gnil (gcons a b) e = clash e refl
-same-is (gnum m) gnil e = clash e refl
+same-is gnil (gnum n) e = absurd (both_ways _ refl e)
+same-is gnil (gcons a b) e = absurd (both_ways _ refl e)
+same-is (gnum m) gnil e = absurd (both_ways _ refl e)
 same-is (gnum m) (gnum n) e = ap gnum (eqb-true m n e)
-same-is (gnum m) (gcons a b) e = clash e refl
-same-is (gcons a b) gnil e = clash e refl
-same-is (gcons a b) (gnum n) e = clash e refl
+same-is (gnum m) (gcons a b) e = absurd (both_ways _ refl e)
+same-is (gcons a b) gnil e = absurd (both_ways _ refl e)
+same-is (gcons a b) (gnum n) e = absurd (both_ways _ refl e)
 same-is (gcons a b) (gcons c d) e = go (same a c) refl (same-is a c) (same-is b d) e
   where
     go : (x : Bool) → same a c ≡ x → (same a c ≡ true → a ≡ c) → (same b d ≡ true → b ≡ d) → cond x (same b d) false ≡ true → gcons a b ≡ gcons c d
     go true p i j q = let u = i p in let v = j q in cc
-    go false p i j q = clash q refl
+    go false p i j q = absurd (both_ways _ refl q)
 
 -- ---- elements of a list
 module _ {X : Type 0} where
@@ -62,13 +61,6 @@ module _ {X : Type 0} where
   around x [] i = elim i [ ]
   around x (y ∷ ys) (here _) = ([], (ys, refl))
   around x (y ∷ ys) (there _ _ i) = let (u, (v, e)) = around x ys i in (y ∷ u, (v, ap (λ l. y ∷ l) e))
-
-  middle : (x : X) (u v : List X) → IsPermutation (x ∷ (u ++ v)) (u ++ (x ∷ v))
-  middle x [] v = IsPermutation-refl (x ∷ v)
-  middle x (y ∷ u) v =
-      IsPermutation-trans (x ∷ y ∷ (u ++ v)) (y ∷ x ∷ (u ++ v)) (y ∷ (u ++ (x ∷ v)))
-      (IsPermutation-swap (x ∷ y ∷ (u ++ v)) (y ∷ x ∷ (u ++ v)) 0 1 (omega arith) (omega arith) refl)
-      (IsPermutation-cons y (x ∷ (u ++ v)) (u ++ (x ∷ v)) (middle x u v))
 
 pub member-le : {C W : Type 0} (f : Point C W → ℕ) (x : Point C W) (xs : List (Point C W)) → Member x xs → f x ≤ total f xs
 member-le f x [] i = elim i [ ]
@@ -131,4 +123,4 @@ module _ {C W : Type 0} (kc : Coded C) (kw : Coded W) where
   shuffled-of (x ∷ xs) ys h =
       let (u, (v, e)) = around x ys (member x ys (omega (arith, h (is x), is-self x))) in
       let below = shuffled-of xs (u ++ v) (λ f. let q : total f ys ≡ total f u + (f x + total f v) = ap (total f) e ∙ total-++ f u (x ∷ v) in omega (arith, h f, total-++ f u v)) in
-      subst (IsPermutation (x ∷ xs)) (sym e) (IsPermutation-trans (x ∷ xs) (x ∷ (u ++ v)) (u ++ (x ∷ v)) (IsPermutation-cons x xs (u ++ v) below) (middle x u v))
+      subst (IsPermutation (x ∷ xs)) (sym e) (IsPermutation-trans (x ∷ xs) (x ∷ (u ++ v)) (u ++ (x ∷ v)) (IsPermutation-cons x xs (u ++ v) below) (IsPermutation-sym _ _ (IsPermutation-middle u x v)))

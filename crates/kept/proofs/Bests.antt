@@ -1,14 +1,14 @@
 -- The best child keeps a point that comes after none kept at the other children.
 use Rattle.std.proofs.Common.{◌≡◌, ℕ, zero, suc, ◌+◌, ◌<◌, Bool, true, false, cond, Some, None, Option, sym, refl, ap, ◌∙◌, add-zero, arith}
 use Rattle.std.specs.Ordering.{is_lt}
-use Rattle.std.proofs.lemmas.Bool.{cond-false}
+use Rattle.std.proofs.lemmas.Bool.{both_ways, cond-false}
 use Rattle.kinds.specs.Meaning.{Meaning, First, Second}
 use Rattle.plain.specs.declared.point.Point.{Point}
 use Rattle.plain.specs.Points.{rank_order}
 use Rattle.trees.specs.Tree.{Tree, Forest, gone, leaf, fork, none, more, kept_by, count, nth_tree}
 use Rattle.trees.specs.Kept.{leads, best_from, best}
 use Rattle.trees.specs.Heap.{held, tally, tally_all, over, Heap, HeapAll}
-use Rattle.kept.proofs.Ranks.{clash, unfit, fits, no-rank, rank-carry, rank-asym, rank-self}
+use Rattle.kept.proofs.Ranks.{unfit, fits, no-rank, rank-carry, rank-asym, rank-self}
 use Rattle.kept.proofs.Sums.{tallies-zero, root-held}
 
 -- of what the trees and o keep, that which leads
@@ -55,12 +55,12 @@ module _ {C W R : Type 0} (m : Meaning C W R) (first : First m) (second : Second
   -- a does not lead b, nor b c: a does not lead c
   leads-carry : (a b c : Option (Point C W)) → FitKept a → FitKept b → FitKept c → leads m a b ≡ false → leads m b c ≡ false → leads m a c ≡ false
   leads-carry None b c fa fb fc p q = refl
-  leads-carry (Some x) None c fa fb fc p q = clash refl p
-  leads-carry (Some x) (Some y) None fa fb fc p q = clash refl q
+  leads-carry (Some x) None c fa fb fc p q = absurd (both_ways _ p refl)
+  leads-carry (Some x) (Some y) None fa fb fc p q = absurd (both_ways _ q refl)
   leads-carry (Some x) (Some y) (Some z) fa fb fc p q = rank-carry m first second x y z (fits m x fa) (fits m y fb) (fits m z fc) p q
 
   leads-asym : (a b : Option (Point C W)) → FitKept a → FitKept b → leads m a b ≡ true → leads m b a ≡ false
-  leads-asym None b fa fb p = clash p refl
+  leads-asym None b fa fb p = absurd (both_ways _ refl p)
   leads-asym (Some x) None fa fb p = refl
   leads-asym (Some x) (Some y) fa fb p = rank-asym m first second x y (fits m x fa) (fits m y fb) p
 
@@ -92,12 +92,12 @@ module _ {C W R : Type 0} (m : Meaning C W R) (first : First m) (second : Second
   -- what is not led may be kept below
   led : (o s : Option (Point C W)) → leads m o s ≡ false → held (over m s) o ≡ 0
   led None s e = refl
-  led (Some x) None e = clash refl e
+  led (Some x) None e = absurd (both_ways _ e refl)
   led (Some x) (Some y) e = cond-false (is_lt (rank_order m x y)) 1 0 e
 
   under : (o s : Option (Point C W)) → FitKept o → FitKept s → leads m o s ≡ false → (z : Point C W) → unfit m z ≡ 0 → over m o z ≡ 0 → over m s z ≡ 0
   under None s fo fs e z fz w = absurd (omega (arith, w))
-  under (Some x) None fo fs e z fz w = clash refl e
+  under (Some x) None fo fs e z fz w = absurd (both_ways _ e refl)
   under (Some x) (Some y) fo fs e z fz w =
       cond-false (is_lt (rank_order m z y)) 1 0
       (rank-carry m first second z x y (fits m z fz) (fits m x fo) (fits m y fs) (no-rank (is_lt (rank_order m z x)) w) e)

@@ -1,5 +1,6 @@
 -- Rank order among fit points, by its tests.
 use Rattle.std.proofs.Common.{◌≡◌, ℕ, Bool, true, false, cond, T, List, [], ◌∷◌, Ordering, Less, Equal, Greater, sym, refl, ap, ◌∙◌, subst, arith}
+use Rattle.std.proofs.lemmas.Bool.{both_ways}
 use Rattle.std.specs.Ordering.{is_le, is_lt, ordering_reverse}
 use Rattle.kinds.specs.Order.{Preorder}
 use Rattle.kinds.specs.Meaning.{Meaning, First, Second}
@@ -10,11 +11,8 @@ use Rattle.plain.proofs.Keys.{lt-less}
 use Rattle.plain.proofs.Laws.{orders}
 use Rattle.trees.specs.Heap.{total}
 
-pub clash : {X : Type 0} {b : Bool} → b ≡ true → b ≡ false → X
-clash p q = let z : ◌≡◌ {A = ℕ} 0 1 = cc in absurd (omega arith)
-
 not-lt : (o : Ordering) → is_lt o ≡ false → T (is_le (ordering_reverse o))
-not-lt Less e = clash refl e
+not-lt Less e = absurd (both_ways _ e refl)
 not-lt Equal e = tt
 not-lt Greater e = tt
 

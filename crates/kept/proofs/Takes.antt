@@ -1,5 +1,6 @@
 -- A point that a tree keeps is taken out.
 use Rattle.std.proofs.Common.{◌≡◌, ℕ, zero, suc, ◌+◌, Bool, true, false, cond, Some, None, Option, refl, arith}
+use Rattle.std.proofs.lemmas.Bool.{both_ways}
 use Rattle.kinds.specs.Meaning.{Meaning, First, Second}
 use Rattle.plain.specs.declared.point.Key.{Key}
 use Rattle.plain.specs.declared.point.Point.{Point}
@@ -7,7 +8,6 @@ use Rattle.trees.specs.Tree.{Tree, Forest, gone, leaf, fork, none, more, nth_tre
 use Rattle.trees.specs.Kept.{pick, pull, has_key, take_out}
 use Rattle.trees.specs.Heap.{held, tally, tally_all, over, KeptIn, Heap, Sorted, SortedAll}
 use Rattle.trees.proofs.Bares.{alter-points, take-points}
-use Rattle.kept.proofs.Ranks.{clash}
 use Rattle.kept.proofs.Sums.{tally-split}
 use Rattle.kept.proofs.Onlys.{only, rest, parted, only-apart, only_self}
 use Rattle.kept.proofs.Onces.{level, same_key}
@@ -33,7 +33,7 @@ module _ {C W R : Type 0} (m : Meaning C W R) (first : First m) (second : Second
   -- at the fork that keeps it
   at_fork : (h : ℕ) (x : Point C W) (p : ℕ) (j : Key C) (o : Option (Point C W)) (ts : Forest C W) → has_key m x.key o ≡ true → Sorted m (suc h) (fork p j o ts) → Heap m (fork p j o ts) → KeptIn x (fork p j o ts) →
       Left x (fork p j o ts) (pull m (suc h) (fork p j o ts))
-  at_fork h x p j None ts e s hp kx = clash e refl
+  at_fork h x p j None ts e s hp kx = absurd (both_ways _ refl e)
   at_fork h x p j (Some y) ts e s hp kx =
       let pl = pull-heap m first second (suc h) (fork p j (Some y) ts) s hp.2 in
       let same = same_key m first x y (points_all ts) s.good.0 e (λ f. omega (arith, kx f, hp.0 f)) (λ f. omega (arith, hp.0 f)) in

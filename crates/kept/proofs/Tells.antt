@@ -1,5 +1,6 @@
 -- From sums to the rules of the tree.
 use Rattle.std.proofs.Common.{◌≡◌, ℕ, ◌+◌, ◌≤◌, true, false, List, [], ◌∷◌, Some, None, Option, Ordering, Less, Equal, Greater, sym, refl, ap, ◌∙◌, inl, inr, arith}
+use Rattle.std.proofs.lemmas.Bool.{both_ways}
 use base.Stored.{Coded}
 use Rattle.std.specs.Ordering.{is_lt, is_eq, ordering_reverse}
 use Rattle.std.specs.Option.{option_to_list}
@@ -14,7 +15,7 @@ use Rattle.trees.specs.Tree.{Tree, Forest, gone, leaf, fork, none, more, points,
 use Rattle.trees.specs.Rules.{Degrees, kept, kept_all, OnPath, OnPathAll, Filled, FilledAll, Ranked, RankedAll, Rules}
 use Rattle.trees.specs.Heap.{total, held, tally, tally_all, over, Full, Heap, HeapAll, Sorted}
 use Rattle.trees.proofs.Forests.{total-++}
-use Rattle.kept.proofs.Ranks.{clash, unfit, fits, all_fit, no-rank}
+use Rattle.kept.proofs.Ranks.{unfit, fits, all_fit, no-rank}
 use Rattle.kept.proofs.Risings.{all_left, all_right, rising-left, rising-right}
 use Rattle.kept.proofs.Onlys.{only, only-tied, only_self}
 use Rattle.kept.proofs.Onces.{One, one_key}
@@ -39,7 +40,7 @@ module _ {C W : Type 0} where
 not_after : (o : Ordering) → is_lt (ordering_reverse o) ≡ false → (o ≡ Equal → ⊥) → o ≡ Less
 not_after Less e n = refl
 not_after Equal e n = absurd (n refl)
-not_after Greater e n = clash refl e
+not_after Greater e n = absurd (both_ways _ e refl)
 
 module _ {C W R : Type 0} (m : Meaning C W R) (first : First m) (second : Second m) where
   -- a point that is not before x in rank, and of another key, is after it

@@ -2,7 +2,7 @@
 use Rattle.std.proofs.Common.{◌≡◌, ℕ, zero, suc, ◌+◌, Bool, true, false, cond, List, [], ◌∷◌, ◌++◌, is_some, Some, None, Option, sym, refl, ap, ◌∙◌, arith}
 use Rattle.std.specs.Ordering.{is_eq}
 use Rattle.std.specs.List.{AllByRecursion}
-use Rattle.std.proofs.lemmas.Bool.{cond-false}
+use Rattle.std.proofs.lemmas.Bool.{both_ways, cond-false}
 use Rattle.kinds.specs.Meaning.{Meaning, First, Second}
 use Rattle.plain.specs.declared.point.Key.{Key}
 use Rattle.plain.specs.declared.point.Point.{Point}
@@ -13,7 +13,6 @@ use Rattle.trees.specs.Tree.{Tree, Forest, gone, leaf, fork, none, more, nth_tre
 use Rattle.trees.specs.Kept.{pick, weigh}
 use Rattle.trees.specs.Heap.{total, held, tally, tally_all, over, Room, Heap, Sorted, SortedAll}
 use Rattle.trees.proofs.Forests.{points-⊕, split-alter}
-use Rattle.kept.proofs.Ranks.{clash}
 use Rattle.kept.proofs.Onces.{level}
 use Rattle.kept.proofs.Puts.{put-alter, put-tally, put-totals, put-heap, put-heap-of, put-sorted}
 use Rattle.kept.proofs.Picks.{pick-inside, pick-sides, parts, pick-weight}
@@ -84,7 +83,7 @@ module _ {C W R : Type 0} (m : Meaning C W R) (first : First m) (second : Second
       ∙ ap (λ l. x ∷ l) (reweigh-skip k w xs ys a)
 
   reweigh-here : (k : Key C) (w : W) (xs ys : List (Point C W)) → stands m k xs ≡ true → reweigh m k w (xs ++ ys) ≡ reweigh m k w xs ++ ys
-  reweigh-here k w [] ys e = clash e refl
+  reweigh-here k w [] ys e = absurd (both_ways _ refl e)
   reweigh-here k w (x ∷ xs) ys e = go (is_eq (key_order m k x.key)) e (reweigh-here k w xs ys)
     where
       go : (b : Bool) → is_some (cond b (Some x.weight) (weight_at m k xs)) ≡ true → (stands m k xs ≡ true → reweigh m k w (xs ++ ys) ≡ reweigh m k w xs ++ ys) →
@@ -97,11 +96,11 @@ module _ {C W R : Type 0} (m : Meaning C W R) (first : First m) (second : Second
     where
       go : (b : Bool) → is_some (cond b (Some x.weight) None) ≡ true → weighing x w ∷ [] ≡ cond b (weighing x w ∷ []) (x ∷ [])
       go true s = refl
-      go false s = clash s refl
+      go false s = absurd (both_ways _ refl s)
 
   weigh-fork : (h : ℕ) (k : Key C) (w : W) (ts : Forest C W) → SortedAll m h ts → stands m k (points_all ts) ≡ true → ((c : Tree C W) → Sorted m h c → stands m k (points c) ≡ true → points (weigh m h k w c) ≡ reweigh m k w (points c)) →
       points_all (alter (pick m k ts) (weigh m h k w) ts) ≡ reweigh m k w (points_all ts)
-  weigh-fork h k w none s e ih = clash e refl
+  weigh-fork h k w none s e ih = absurd (both_ways _ refl e)
   weigh-fork h k w (more t ts) s e ih =
       let us = more t ts in
       let i = pick m k us in

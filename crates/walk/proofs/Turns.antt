@@ -1,5 +1,6 @@
 -- One step of a walk: the entry on top is taken, and the nodes that it leads to join.
 use Rattle.std.proofs.Common.{◌≡◌, ℕ, zero, suc, ◌+◌, ◌*◌, ◌≤◌, Bool, true, false, cond, ◌&&◌, List, [], ◌∷◌, ◌++◌, length, Some, Option, sym, refl, ap, ◌∙◌, subst, arith, length-append}
+use Rattle.std.proofs.lemmas.Grind.{flat_map-append}
 use mathlib.Core.List.{map-append}
 use Rattle.std.specs.List.{slice_get, flat_map, AllByRecursion}
 use Rattle.std.proofs.ByRecursion.{All-append, All-from_get_or}
@@ -7,7 +8,6 @@ use Rattle.kinds.specs.Meaning.{Meaning}
 use Rattle.plain.specs.declared.point.Point.{Point}
 use Rattle.trees.specs.Tree.{fork, kept_by}
 use Rattle.walked.specs.Walk.{starts_by, walk, walk_all}
-use Rattle.walked.proofs.Parts.{joined-join}
 use Rattle.walked.proofs.Stacks.{walk-open}
 use Rattle.table.specs.declared.node.Node.{Node}
 use Rattle.table.specs.Reading.{kept_in, tree_at, Sound}
@@ -82,7 +82,7 @@ module _ {C W R : Type 0} (m : Meaning C W R) (leads : Option (Point C W) → Bo
         ∙ ap (λ t. t ∷ walk_all m leads l u (below m ns h n)) (sym (fork-was m ns h e.root n is)))
         ∙ ap (λ vs. tree_at m ns (suc h) e.root ∷ vs)
         (ap (λ vs. vs ++ to_come m ns leads l u es) (walk-open m leads l u (below m ns h n) ∙ ap (flat_map (walk m leads l u)) (sym (open-trees m ns h l u (kids m n) (kids m n))))
-        ∙ sym (joined-join (walk m leads l u) (trees_of m ns (open_entries m ns h l u (kids m n))) (trees_of m ns es))
+        ∙ sym (flat_map-append (walk m leads l u) (trees_of m ns (open_entries m ns h l u (kids m n))) (trees_of m ns es))
         ∙ ap (flat_map (walk m leads l u)) (sym (map-append (tree_of m ns) (open_entries m ns h l u (kids m n)) es))))
 
   -- the entries that join name sound trees, and the stack has room for them

@@ -1,5 +1,6 @@
 -- How many nodes a frontier walk takes in a tree, by what lies on either side of the window.
 use Rattle.std.proofs.Common.{◌≡◌, ℕ, zero, suc, ◌+◌, ◌-◌, ◌*◌, ◌<◌, ◌≤◌, true, not, leb, List, [], ◌∷◌, ◌++◌, length, sym, refl, ap, ◌∙◌, ⊎_elim, append-nil, arith, length-append}
+use Rattle.std.proofs.lemmas.Grind.{flat_map-append}
 use native.Mathlib.Nat.{sub-zero}
 use Rattle.std.specs.List.{flat_map, AllByRecursion}
 use Rattle.std.proofs.lemmas.Bool.{leb-true, leb-false}
@@ -9,7 +10,7 @@ use Rattle.plain.specs.Windows.{later}
 use Rattle.trees.specs.Tree.{Tree, Forest, gone, leaf, fork, none, more, key_of, count, points, points_all}
 use Rattle.trees.specs.Rules.{Level, LevelAll, Degrees, DegreesAll, FirstKey}
 use Rattle.walked.specs.Walk.{until, starts_by, starts_from, reaches_right, opens, open_of, always, walk_all, taken, shown, first_taken, listed}
-use Rattle.walked.proofs.Parts.{by-test, all-parts, joined-join}
+use Rattle.walked.proofs.Parts.{by-test, all-parts}
 use Rattle.walked.proofs.Uptos.{Upto, Unfalling, unfalling-parts, upto-trans, upto-total}
 use Rattle.walked.proofs.Marks.{Marked, MarkedAll, mark, mark-is, mark-at, mark-before, first-at}
 use Rattle.walked.proofs.Opens.{Shut, open-starts}
@@ -41,7 +42,7 @@ module _ {X Y : Type 0} (f : X → List Y) where
   until-all k xs h = ap (until f k) (sym (append-nil xs)) ∙ until-right k xs [] h ∙ append-nil xs
 
   found : (xs ys : List X) → length (flat_map f (xs ++ ys)) ≡ length (flat_map f xs) + length (flat_map f ys)
-  found xs ys = ap length (joined-join f xs ys) ∙ length-append (flat_map f xs) (flat_map f ys)
+  found xs ys = ap length (flat_map-append f xs ys) ∙ length-append (flat_map f xs) (flat_map f ys)
 
 module _ {C W R : Type 0} (m : Meaning C W R) where
   -- what a frontier walk takes of the open children

@@ -1,5 +1,5 @@
 -- Parts of lists: what a filter keeps of them, and lists in a row.
-use Rattle.std.proofs.Common.{◌≡◌, Bool, true, false, List, [], ◌∷◌, ◌++◌, filter, sym, refl, ap, ◌∙◌, append_assoc}
+use Rattle.std.proofs.Common.{◌≡◌, Bool, true, false, List, [], ◌∷◌, ◌++◌, filter, sym, refl, ap, ◌∙◌}
 use Rattle.std.specs.List.{flat_map, AllByRecursion}
 use Rattle.std.proofs.lemmas.List.Elements.{filter-append}
 use Rattle.kept.proofs.Risings.{all_left, all_right}
@@ -15,10 +15,6 @@ all-parts P xs ys a = (all_left P xs ys a, all_right P xs ys a)
 pub kept-none : {X : Type 0} (p : X → Bool) (xs : List X) → AllByRecursion (λ x. p x ≡ false) xs → filter p xs ≡ []
 kept-none p [] a = refl
 kept-none p (x ∷ xs) (h, a) = rw h (kept-none p xs a)
-
-pub joined-join : {X Y : Type 0} (f : X → List Y) (xs ys : List X) → flat_map f (xs ++ ys) ≡ flat_map f xs ++ flat_map f ys
-joined-join f [] ys = refl
-joined-join f (x ∷ xs) ys = ap (λ z. f x ++ z) (joined-join f xs ys) ∙ sym (append_assoc (f x) (flat_map f xs) (flat_map f ys))
 
 pub joined-kept : {X Y : Type 0} (p : Y → Bool) (f : X → List Y) (xs : List X) → flat_map (λ x. filter p (f x)) xs ≡ filter p (flat_map f xs)
 joined-kept p f [] = refl

@@ -1,11 +1,13 @@
 -- What the range walk lists: the points that match, each once.
 use Rattle.std.proofs.Common.{◌≡◌, ℕ, Bool, true, false, cond, ◌&&◌, T, List, [], ◌∷◌, ◌++◌, Some, None, Less, sym, refl, ap, ◌∙◌, subst, inl, inr, append-nil}
+use Rattle.std.proofs.lemmas.Grind.{flat_map-append}
 use Rattle.std.specs.List.Sorted.{IsPermutation}
 use Rattle.std.specs.Option.{option_to_list}
 use Rattle.std.specs.List.{ContainsAt, flat_map, AllByRecursion}
 use Rattle.std.proofs.lemmas.List.Elements.{filter-append}
 use Rattle.std.proofs.ByRecursion.{All-weaker, all-has}
 use Rattle.std.proofs.lemmas.Bool.{true≢false, and_left, and_right}
+use Rattle.std.proofs.lemmas.Float.{T_from_true}
 use Rattle.kinds.specs.Meaning.{Meaning, First, Second}
 use Rattle.plain.specs.declared.point.Point.{Point}
 use Rattle.plain.specs.Points.{rank_order, FitPoint}
@@ -13,7 +15,7 @@ use Rattle.plain.specs.Windows.{inside, reaches, matches}
 use Rattle.trees.specs.Tree.{Tree, Forest, gone, leaf, fork, none, more, points, points_all}
 use Rattle.trees.specs.Rules.{kept, kept_all, OnPath, OnPathAll, Rules}
 use Rattle.walked.specs.Walk.{kept_at, opens, leads_on, walk_all, visits, ranged}
-use Rattle.walked.proofs.Parts.{by-test, all-parts, kept-none, joined-join}
+use Rattle.walked.proofs.Parts.{by-test, all-parts, kept-none}
 use Rattle.walked.proofs.Shuffles.{kept-shuffled}
 use Rattle.walked.proofs.Uptos.{less-le, Unfalling, unfalling, unfalling-parts}
 use Rattle.walked.proofs.Marks.{Marked, MarkedAll, marked}
@@ -23,10 +25,6 @@ use Rattle.walked.proofs.Homes.{homed, homed_all, Placed, PlacedAll, placed}
 T_true : (b : Bool) → T b → b ≡ true
 T_true true h = refl
 T_true false h = absurd h
-
-true-T : (b : Bool) → b ≡ true → T b
-true-T true h = tt
-true-T false h = absurd (true≢false (sym h))
 
 module _ {C W R : Type 0} (m : Meaning C W R) (first : First m) (second : Second m) (l u : C) (w : W) (fit : T (m.threshold w)) where
   -- inside the window and reaching the threshold
@@ -40,7 +38,7 @@ module _ {C W R : Type 0} (m : Meaning C W R) (first : First m) (second : Second
     where
       go : (b : Bool) → reaches m x.weight w ≡ b → reaches m x.weight w ≡ false
       go true e =
-          let far = second.orders.carries q.weight x.weight w (inl (q.key.at, f)) (inl (x.key.at, g)) (inr fit) (less-le (m.strength q.weight x.weight) _ r) (true-T _ e) in
+          let far = second.orders.carries q.weight x.weight w (inl (q.key.at, f)) (inl (x.key.at, g)) (inr fit) (less-le (m.strength q.weight x.weight) _ r) (T_from_true _ e) in
           absurd (true≢false (sym (T_true _ far) ∙ s))
       go false e = e
 
@@ -68,7 +66,7 @@ module _ {C W R : Type 0} (m : Meaning C W R) (first : First m) (second : Second
         let rest = range-forest ts b hs ons pls e in
         let both = filter-append hit (kept t) (kept_all ts) in
         by-test (opens m l u t ts)
-        (λ o. rw o (cc (joined-join kept_at v vs, filter-append hit (flat_map kept_at v) (flat_map kept_at vs), first_part, rest, both)))
+        (λ o. rw o (cc (flat_map-append kept_at v vs, filter-append hit (flat_map kept_at v) (flat_map kept_at vs), first_part, rest, both)))
         (λ o.
         let out = shut_out m first l u t ts o h hs r in
         let empty = All-weaker (ContainsAt (points t)) (λ p. hit p ≡ false) (λ p i. and_left _ _ (all-has (λ p. inside m l u p.key.at ≡ false) (points t) p out i)) (kept t) (homed t on) in

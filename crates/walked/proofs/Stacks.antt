@@ -1,5 +1,6 @@
 -- A walk by a stack: a step takes the next node, and how many entries the stack has.
 use Rattle.std.proofs.Common.{◌≡◌, ℕ, zero, suc, ◌+◌, ◌-◌, ◌*◌, ◌≤◌, Bool, List, [], ◌∷◌, ◌++◌, length, take, drop, Option, sym, refl, ap, ◌∙◌, append-nil, mul-suc, arith, length-append}
+use Rattle.std.proofs.lemmas.Grind.{flat_map-append}
 use Rattle.std.specs.List.{flat_map, AllByRecursion}
 use Rattle.kinds.specs.Meaning.{Meaning}
 use Rattle.plain.specs.declared.point.Point.{Point}
@@ -7,7 +8,7 @@ use Rattle.trees.specs.Tree.{Tree, Forest, gone, leaf, fork, none, more, count, 
 use Rattle.trees.specs.Rules.{Level, LevelAll, Degrees, DegreesAll}
 use Rattle.shapes.proofs.Counts.{size-most}
 use Rattle.walked.specs.Walk.{until, opens, open_of, walk, walk_all, next, step, after, run}
-use Rattle.walked.proofs.Parts.{by-test, joined-join}
+use Rattle.walked.proofs.Parts.{by-test}
 use Rattle.walked.proofs.Opens.{open-most}
 
 -- ---- room for what is below each entry: with i entries under it, one of height g has i + (b - 1) * g ≤ (b - 1) * h
@@ -36,7 +37,7 @@ module _ {C W R : Type 0} (m : Meaning C W R) (leads : Option (Point C W) → Bo
 
   -- a step takes the first node of what is left of the walk
   pub walk_step : (v : Tree C W) (vs : List (Tree C W)) → flat_map (walk m leads l u) (v ∷ vs) ≡ v ∷ flat_map (walk m leads l u) (step m leads l u (v ∷ vs))
-  walk_step v vs = ap (λ z. z ++ flat_map (walk m leads l u) vs) (walk-next v) ∙ ap (λ z. v ∷ z) (sym (joined-join (walk m leads l u) (next m leads l u v) vs))
+  walk_step v vs = ap (λ z. z ++ flat_map (walk m leads l u) vs) (walk-next v) ∙ ap (λ z. v ∷ z) (sym (flat_map-append (walk m leads l u) (next m leads l u v) vs))
 
   -- the same of a walk that is cut off
   pub until-step : {Y : Type 0} (list : Tree C W → List Y) (k : ℕ) (v : Tree C W) (vs : List (Tree C W))
@@ -95,7 +96,7 @@ module _ {C W R : Type 0} (m : Meaning C W R) (leads : Option (Point C W) → Bo
       let os = open_of m l u ts in
       let n = length-append (points_all ts) (flat_map points vs) in
       by-test (leads o)
-      (λ e. rw e (omega (arith, n, open-points ts, ap length (joined-join points os vs), length-append (flat_map points os) (flat_map points vs))))
+      (λ e. rw e (omega (arith, n, open-points ts, ap length (flat_map-append points os vs), length-append (flat_map points os) (flat_map points vs))))
       (λ e. rw e (omega (arith, n)))
 
   sound-length : (b : ℕ) (vs : List (Tree C W)) → Sound b vs → length vs ≤ length (flat_map points vs)

@@ -1,5 +1,6 @@
 -- What a frontier walk lists: the points in the window, in key order.
 use Rattle.std.proofs.Common.{◌≡◌, ℕ, zero, suc, ◌-◌, ◌≤◌, List, [], ◌∷◌, ◌++◌, length, take, sym, refl, ap, ◌∙◌, arith}
+use Rattle.std.proofs.lemmas.Grind.{flat_map-append}
 use native.Mathlib.Nat.{sub-zero}
 use Rattle.std.specs.List.{flat_map}
 use Rattle.std.proofs.lemmas.List.Elements.{filter-append}
@@ -8,7 +9,7 @@ use Rattle.plain.specs.Windows.{inside, window, firsts}
 use Rattle.trees.specs.Tree.{Tree, Forest, gone, leaf, fork, none, more, points, points_all}
 use Rattle.trees.specs.Rules.{Rules}
 use Rattle.walked.specs.Walk.{point_at, until, opens, always, walk_all, taken, shown, first_taken, listed}
-use Rattle.walked.proofs.Parts.{by-test, kept-none, joined-join, joined-kept}
+use Rattle.walked.proofs.Parts.{by-test, kept-none, joined-kept}
 use Rattle.walked.proofs.Uptos.{Unfalling, unfalling, unfalling-parts}
 use Rattle.walked.proofs.Marks.{Marked, MarkedAll, marked}
 use Rattle.walked.proofs.Opens.{shut_out}
@@ -44,7 +45,7 @@ module _ {C W R : Type 0} (m : Meaning C W R) (first : First m) (l u : C) where
         let rest = taken-forest ts b hs in
         let both = filter-append (λ p. inside m l u p.key.at) ps qs in
         by-test (opens m l u t ts)
-        (λ o. rw o (cc (joined-join point_at v vs, filter-append (λ p. inside m l u p.key.at) (flat_map point_at v) (flat_map point_at vs), first_part, rest, both)))
+        (λ o. rw o (cc (flat_map-append point_at v vs, filter-append (λ p. inside m l u p.key.at) (flat_map point_at v) (flat_map point_at vs), first_part, rest, both)))
         (λ o. rw o (rest ∙ ap (λ z. z ++ window m l u qs) (sym (kept-none (λ p. inside m l u p.key.at) ps (shut_out m first l u t ts o h hs r))) ∙ sym both))
 
   shown-short : (v : Tree C W) → length (shown m l u v) ≤ 1

@@ -1,5 +1,6 @@
 -- How many nodes the range walk visits in a tree, by what lies on either side of the window.
 use Rattle.std.proofs.Common.{◌≡◌, ℕ, zero, suc, ◌+◌, ◌*◌, ◌≤◌, ◌&&◌, List, ◌++◌, length, Some, None, ap, ◌∙◌, ⊎_elim, mul-suc, mul-add, arith, length-append}
+use Rattle.std.proofs.lemmas.Grind.{flat_map-append}
 use Rattle.std.specs.List.{flat_map}
 use Rattle.std.proofs.lemmas.List.Elements.{filter-append}
 use Rattle.kinds.specs.Meaning.{Meaning, First}
@@ -7,7 +8,7 @@ use Rattle.plain.specs.Windows.{inside, reaches, matches}
 use Rattle.trees.specs.Tree.{Tree, Forest, gone, leaf, fork, none, more, points, points_all}
 use Rattle.trees.specs.Rules.{Level, LevelAll, Degrees, DegreesAll}
 use Rattle.walked.specs.Walk.{kept_at, opens, open_of, leads_on, walk_all, visits, ranged}
-use Rattle.walked.proofs.Parts.{by-test, joined-join}
+use Rattle.walked.proofs.Parts.{by-test}
 use Rattle.walked.proofs.Uptos.{Unfalling, unfalling-parts}
 use Rattle.walked.proofs.Marks.{Marked, MarkedAll}
 use Rattle.walked.proofs.Opens.{Shut, open-most}
@@ -21,7 +22,7 @@ module _ {C W R : Type 0} (m : Meaning C W R) (l u : C) (w : W) where
 
   hits_join : (vs ws : List (Tree C W)) → hits (vs ++ ws) ≡ hits vs + hits ws
   hits_join vs ws =
-      ap (λ z. length (matches m l u w z)) (joined-join kept_at vs ws)
+      ap (λ z. length (matches m l u w z)) (flat_map-append kept_at vs ws)
       ∙ ap length (filter-append (λ p. inside m l u p.key.at && reaches m p.weight w) (flat_map kept_at vs) (flat_map kept_at ws))
       ∙ length-append (matches m l u w (flat_map kept_at vs)) (matches m l u w (flat_map kept_at ws))
 
