@@ -3,9 +3,9 @@ use Rattle.std.proofs.Common.{◌≡◌, ℕ, zero, suc, ◌+◌, ◌≤◌, Boo
 use base.Stored.{Coded}
 use Rattle.std.specs.Ordering.{is_lt}
 use Rattle.std.specs.Option.{option_to_list}
-use Rattle.std.specs.List.{ContainsAt, AllByRecursion}
+use Rattle.std.specs.List.{Contains, AllByRecursion}
 use Rattle.std.proofs.lemmas.Bool.{both_ways}
-use Rattle.std.proofs.ByRecursion.{All-append, All-weaker, all-has, has_append_left, has_append_right}
+use Rattle.std.proofs.lemmas.List.Elements.{Contains-append_left, Contains-append_right}
 use Rattle.kinds.specs.Meaning.{Meaning, First, Second}
 use Rattle.plain.specs.declared.point.Key.{Key}
 use Rattle.plain.specs.declared.point.Point.{Point}
@@ -16,6 +16,7 @@ use Rattle.trees.specs.Tree.{Tree, Forest, gone, leaf, fork, none, more, kept_by
 use Rattle.trees.specs.Rules.{kept, kept_all, OnPath, OnPathAll, Filled, FilledAll, Ranked, RankedAll}
 use Rattle.trees.specs.Heap.{total, held, tally, tally_all}
 use Rattle.trees.proofs.Forests.{total-++}
+use Rattle.trees.proofs.Each.{each-append, each-weaker, each-has}
 use Rattle.kept.proofs.Ranks.{rank-carry, rank-asym, rank-self}
 use Rattle.kept.proofs.Sums.{total-none}
 use Rattle.kept.proofs.Tells.{kept-totals}
@@ -38,20 +39,20 @@ module _ {C W R : Type 0} (m : Meaning C W R) where
 
   -- each point kept is one of the tree's
   mutual
-    kept-has : (t : Tree C W) → OnPath t → AllByRecursion (ContainsAt (points t)) (kept t)
+    kept-has : (t : Tree C W) → OnPath t → AllByRecursion (Contains (points t)) (kept t)
     kept-has (gone p) on = tt
     kept-has (leaf p x o) on = on
-    kept-has (fork p k o ts) on = All-append (ContainsAt (points_all ts)) (option_to_list o) (kept_all ts) on.0 (kept-hases ts on.1)
+    kept-has (fork p k o ts) on = each-append (Contains (points_all ts)) (option_to_list o) (kept_all ts) on.0 (kept-hases ts on.1)
 
-    kept-hases : (ts : Forest C W) → OnPathAll ts → AllByRecursion (ContainsAt (points_all ts)) (kept_all ts)
+    kept-hases : (ts : Forest C W) → OnPathAll ts → AllByRecursion (Contains (points_all ts)) (kept_all ts)
     kept-hases none on = tt
     kept-hases (more t ts) on =
-        All-append (ContainsAt (points t ++ points_all ts)) (kept t) (kept_all ts)
-        (All-weaker (ContainsAt (points t)) (ContainsAt (points t ++ points_all ts)) (λ x. has_append_left (points t) (points_all ts) x) (kept t) (kept-has t on.0))
-        (All-weaker (ContainsAt (points_all ts)) (ContainsAt (points t ++ points_all ts)) (λ x. has_append_right (points t) (points_all ts) x) (kept_all ts) (kept-hases ts on.1))
+        each-append (Contains (points t ++ points_all ts)) (kept t) (kept_all ts)
+        (each-weaker (Contains (points t)) (Contains (points t ++ points_all ts)) (λ x. Contains-append_left (points t) (points_all ts) x) (kept t) (kept-has t on.0))
+        (each-weaker (Contains (points_all ts)) (Contains (points t ++ points_all ts)) (λ x. Contains-append_right (points t) (points_all ts) x) (kept_all ts) (kept-hases ts on.1))
 
-  fit-some : (xs ys : List (Point C W)) → AllFit m xs → AllByRecursion (ContainsAt xs) ys → AllFit m ys
-  fit-some xs ys fit has = All-weaker (ContainsAt xs) (FitPoint m) (λ x i. all-has (FitPoint m) xs x fit i) ys has
+  fit-some : (xs ys : List (Point C W)) → AllFit m xs → AllByRecursion (Contains xs) ys → AllFit m ys
+  fit-some xs ys fit has = each-weaker (Contains xs) (FitPoint m) (λ x i. each-has (FitPoint m) xs x fit i) ys has
 
   none_after : (zs : List (Point C W)) → AllByRecursion (After m None) zs → zs ≡ []
   none_after [] a = refl
@@ -83,12 +84,12 @@ module _ {C W R : Type 0} (m : Meaning C W R) where
           let fit = fit_all m ts (Some i) u h q.1 in
           let fi = fit-some (points_all ts) (option_to_list i) fit q.0.3 in
           let fk = fit-some (points_all ts) (kept_all ts) fit (kept-hases ts (path-all ts (Some i) u h q.1)) in
-          All-append (After m o) (option_to_list i) (kept_all ts) f (after-carries o i (kept_all ts) fo fi fk f (after-all ts i u h q.1 fi))
+          each-append (After m o) (option_to_list i) (kept_all ts) f (after-carries o i (kept_all ts) fo fi fk f (after-all ts i u h q.1 fi))
 
       after-all : (ts : Forest C W) (o : Option (Point C W)) (u : Option (Key C)) (h : ℕ) → PassesAll m ts (Some o) u h → AllFit m (option_to_list o) → AllByRecursion (After m o) (kept_all ts)
       after-all none o u h q fo = tt
       after-all (more t ts) o u h q fo =
-          All-append (After m o) (kept t) (kept_all ts) (after-of t (next_key ts u) h q.1 o fo q.0) (after-all ts o u h q.2 fo)
+          each-append (After m o) (kept t) (kept_all ts) (after-of t (next_key ts u) h q.1 o fo q.0) (after-all ts o u h q.2 fo)
 
     -- all that is kept below a fork comes after what it keeps
     after-fork : (p : ℕ) (k : Key C) (o : Option (Point C W)) (ts : Forest C W) (u : Option (Key C)) (h : ℕ) → Passes m (fork p k o ts) u (suc h) → AllByRecursion (After m o) (kept_all ts)
@@ -125,8 +126,8 @@ module _ {C W R : Type 0} (m : Meaning C W R) where
 
     -- ---- none twice
     module _ (kc : Coded C) (kw : Coded W) where
-      has-le : (f : Point C W → ℕ) (x : Point C W) (xs : List (Point C W)) → ContainsAt xs x → f x ≤ total f xs
-      has-le f x xs i = all-has (λ w. f w ≤ total f xs) xs x (all_of (λ w. f w ≤ total f xs) xs (λ w j. member-le f w xs j)) i
+      has-le : (f : Point C W → ℕ) (x : Point C W) (xs : List (Point C W)) → Contains xs x → f x ≤ total f xs
+      has-le f x xs i = each-has (λ w. f w ≤ total f xs) xs x (all_of (λ w. f w ≤ total f xs) xs (λ w j. member-le f w xs j)) i
 
       -- no point comes after itself
       not-self : (x : Point C W) → FitPoint m x → (y : Point C W) → rank_order m x y ≡ Less → is kc kw x y ≡ 0
@@ -137,7 +138,7 @@ module _ {C W R : Type 0} (m : Meaning C W R) where
           go (inr e) = absurd (both_ways _ (rank-self m first second x fx) (ap is_lt (subst (λ w. rank_order m x w ≡ Less) (sym e) l)))
 
       -- a point kept at a fork, and those kept below it
-      held-once : (o : Option (Point C W)) (ts : Forest C W) (z : Point C W) → AllByRecursion (ContainsAt (points_all ts)) (option_to_list o) → AllFit m (option_to_list o) → AllByRecursion (After m o) (kept_all ts) → tally_all ts (is kc kw z) ≤ total (is kc kw z) (points_all ts) → held (is kc kw z) o + tally_all ts (is kc kw z) ≤ total (is kc kw z) (points_all ts)
+      held-once : (o : Option (Point C W)) (ts : Forest C W) (z : Point C W) → AllByRecursion (Contains (points_all ts)) (option_to_list o) → AllFit m (option_to_list o) → AllByRecursion (After m o) (kept_all ts) → tally_all ts (is kc kw z) ≤ total (is kc kw z) (points_all ts) → held (is kc kw z) o + tally_all ts (is kc kw z) ≤ total (is kc kw z) (points_all ts)
       held-once None ts z has fit a le = omega arith
       held-once (Some x) ts z has fit a le = go (tell kc kw z x)
         where
@@ -148,7 +149,7 @@ module _ {C W R : Type 0} (m : Meaning C W R) where
               let one : is kc kw x x + tally_all ts (is kc kw x) ≤ total (is kc kw x) (points_all ts) = omega (arith, kept-totals (is kc kw x) ts, has-le (is kc kw x) x (points_all ts) has.0) in
               subst (λ w. is kc kw w x + tally_all ts (is kc kw w) ≤ total (is kc kw w) (points_all ts)) (sym e) one
 
-      held-leaf : (x : Point C W) (o : Option (Point C W)) (z : Point C W) → AllByRecursion (ContainsAt (x ∷ [])) (option_to_list o) → held (is kc kw z) o ≤ total (is kc kw z) (x ∷ [])
+      held-leaf : (x : Point C W) (o : Option (Point C W)) (z : Point C W) → AllByRecursion (Contains (x ∷ [])) (option_to_list o) → held (is kc kw z) o ≤ total (is kc kw z) (x ∷ [])
       held-leaf x None z has = omega arith
       held-leaf x (Some y) z has = has-le (is kc kw z) y (x ∷ []) has.0
 

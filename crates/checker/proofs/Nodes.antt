@@ -1,9 +1,9 @@
 -- Some trees in a table, by the node of the first.
 use Rattle.std.proofs.Common.{◌≡◌, ℕ, suc, ◌-◌, ◌≤◌, List, [], ◌∷◌, ◌++◌, length, get_or, take, drop, Some, None, Option, sym, refl, ap, ◌∙◌, subst, arith, length-append}
 use Rattle.std.proofs.Math.Seq.{take-length}
-use Rattle.std.specs.List.{slice_get, ContainsAt, AllByRecursion}
+use Rattle.std.specs.List.{slice_get, Contains, AllByRecursion}
 use Rattle.std.specs.Option.{option_to_list}
-use Rattle.std.proofs.ByRecursion.{has_append_left, has_append_right}
+use Rattle.std.proofs.lemmas.List.Elements.{Contains-append_left, Contains-append_right}
 use Rattle.kinds.specs.Meaning.{Meaning}
 use Rattle.plain.specs.declared.point.Key.{Key}
 use Rattle.plain.specs.declared.point.Point.{Point}
@@ -63,13 +63,13 @@ module _ {C W R : Type 0} (m : Meaning C W R) (ns : List (Node C R)) where
 
     -- ---- a point that stands in them
     module _ (x : Point C W) where
-      pub has-below : (h ≡ 0 → ⊥) → ContainsAt (points_all (under h n)) x → ContainsAt (points_all (grow (tree_at m ns h) ps)) x
+      pub has-below : (h ≡ 0 → ⊥) → Contains (points_all (under h n)) x → Contains (points_all (grow (tree_at m ns h) ps)) x
       has-below pos i =
-          subst (λ ts. ContainsAt (points_all ts) x) (sym (trees-fork pos))
-          (has_append_left (points_all (under h n)) (points_all (grow (tree_at m ns h) qs)) x i)
+          subst (λ ts. Contains (points_all ts) x) (sym (trees-fork pos))
+          (Contains-append_left (points_all (under h n)) (points_all (grow (tree_at m ns h) qs)) x i)
 
-      pub has-after : ContainsAt (points_all (grow (tree_at m ns h) qs)) x → ContainsAt (points_all (grow (tree_at m ns h) ps)) x
-      has-after i = subst (λ l. ContainsAt (points_all (grow (tree_at m ns h) l)) x) (sym parts) (has_append_right (points (tree_at m ns h p)) (points_all (grow (tree_at m ns h) qs)) x i)
+      pub has-after : Contains (points_all (grow (tree_at m ns h) qs)) x → Contains (points_all (grow (tree_at m ns h) ps)) x
+      has-after i = subst (λ l. Contains (points_all (grow (tree_at m ns h) l)) x) (sym parts) (Contains-append_right (points (tree_at m ns h p)) (points_all (grow (tree_at m ns h) qs)) x i)
 
     -- ---- how many points they have, and how many are kept
     pub count-fork : (h ≡ 0 → ⊥) → (own below rest all : Counts) → own.points ≡ 0 → own.kept ≡ length (option_to_list n.kept)
@@ -103,7 +103,7 @@ module _ {C W R : Type 0} (m : Meaning C W R) (ns : List (Node C R)) where
 
   -- a fork passes by its parts
   pub fork-of : (h : ℕ) (n : Node C R) → let ts = grow (tree_at m ns h) (kids_of n.children) in
-      2 ≤ length (kids_of n.children) → next_at ns (kids_of n.children) None ≡ Some (key_in n.own) → AllByRecursion (ContainsAt (points_all ts)) (option_to_list (kept_in m n)) → ForkPasses m (key_in n.own) (kept_in m n) ts
+      2 ≤ length (kids_of n.children) → next_at ns (kids_of n.children) None ≡ Some (key_in n.own) → AllByRecursion (Contains (points_all ts)) (option_to_list (kept_in m n)) → ForkPasses m (key_in n.own) (kept_in m n) ts
   fork-of h n two head has =
       let kids = kids_of n.children in
       let long = count-grow (tree_at m ns h) kids in

@@ -1,7 +1,6 @@
 -- What passes has its shape, its keys and its order.
 use Rattle.std.proofs.Common.{◌≡◌, ℕ, zero, suc, List, [], ◌∷◌, ◌++◌, Some, None, Option, sym, refl, subst}
 use Rattle.std.specs.List.{AllByRecursion}
-use Rattle.std.proofs.ByRecursion.{All-append, All-weaker}
 use Rattle.kinds.specs.Meaning.{Meaning, First}
 use Rattle.plain.specs.declared.point.Key.{Key}
 use Rattle.plain.specs.declared.point.Point.{Point}
@@ -10,6 +9,7 @@ use Rattle.plain.specs.Set.{Rising, AllFit}
 use Rattle.plain.proofs.Keys.{before-carries}
 use Rattle.trees.specs.Tree.{Tree, Forest, gone, leaf, fork, none, more, key_of, points, points_all}
 use Rattle.trees.specs.Rules.{Level, LevelAll, Degrees, DegreesAll, FirstKey, Keyed, KeyedAll}
+use Rattle.trees.proofs.Each.{each-append, each-weaker}
 use Rattle.kept.proofs.Risings.{first_more, later-all}
 use Rattle.checker.specs.Passes.{next_key, Heads, Under, Passes, PassesAll}
 
@@ -75,12 +75,12 @@ module _ {C W R : Type 0} (m : Meaning C W R) where
 
     pub fit_all : (ts : Forest C W) (a : Option (Option (Point C W))) (u : Option (Key C)) (h : ℕ) → PassesAll m ts a u h → AllFit m (points_all ts)
     fit_all none a u h q = tt
-    fit_all (more t ts) a u h q = All-append (FitPoint m) (points t) (points_all ts) (fit_of t (next_key ts u) h q.1) (fit_all ts a u h q.2)
+    fit_all (more t ts) a u h q = each-append (FitPoint m) (points t) (points_all ts) (fit_of t (next_key ts u) h q.1) (fit_all ts a u h q.2)
 
   -- ---- the order
   rising-append : (xs ys : List (Point C W)) → Rising m xs → Rising m ys → AllByRecursion (λ x. AllByRecursion (λ y. Before m x.key y.key) ys) xs → Rising m (xs ++ ys)
   rising-append [] ys r s c = s
-  rising-append (x ∷ xs) ys r s c = (All-append (λ y. Before m x.key y.key) xs ys r.0 c.0, rising-append xs ys r.1 s c.1)
+  rising-append (x ∷ xs) ys r s c = (each-append (λ y. Before m x.key y.key) xs ys r.0 c.0, rising-append xs ys r.1 s c.1)
 
   under_first : (u : Option (Key C)) (j : Key C) (xs ys : List (Point C W)) → FirstKey j xs → AllByRecursion (λ x. Under m u x.key) (xs ++ ys) → Under m u j
   under_first u j [] ys f a = absurd f
@@ -109,8 +109,8 @@ module _ {C W R : Type 0} (m : Meaning C W R) where
       under_all none a u h q = tt
       under_all (more t ts) a u h q =
           let rest = under_all ts a u h q.2 in
-          All-append (λ x. Under m u x.key) (points t) (points_all ts)
-          (All-weaker (λ x. Under m (next_key ts u) x.key) (λ x. Under m u x.key) (λ x. weaken ts a u h q.2 rest x.key) (points t) (under_of t (next_key ts u) h q.1))
+          each-append (λ x. Under m u x.key) (points t) (points_all ts)
+          (each-weaker (λ x. Under m (next_key ts u) x.key) (λ x. Under m u x.key) (λ x. weaken ts a u h q.2 rest x.key) (points t) (under_of t (next_key ts u) h q.1))
           rest
 
     -- what is before the first of some trees is before all their points
@@ -132,4 +132,4 @@ module _ {C W R : Type 0} (m : Meaning C W R) where
       rising-all (more t ts) a u h q =
           let rest = rising-all ts a u h q.2 in
           rising-append (points t) (points_all ts) (rising-of t (next_key ts u) h q.1) rest
-          (All-weaker (λ x. Under m (next_key ts u) x.key) (λ x. AllByRecursion (λ y. Before m x.key y.key) (points_all ts)) (λ x. later ts a u h q.2 rest x.key) (points t) (under_of t (next_key ts u) h q.1))
+          (each-weaker (λ x. Under m (next_key ts u) x.key) (λ x. AllByRecursion (λ y. Before m x.key y.key) (points_all ts)) (λ x. later ts a u h q.2 rest x.key) (points t) (under_of t (next_key ts u) h q.1))

@@ -1,7 +1,7 @@
 -- What is tested at each node of a tree: all of it together is the rules.
 use Rattle.std.specs.Prelude.{◌≡◌, ℕ, zero, suc, ◌≤◌, List, [], ◌∷◌, Some, None, Option}
 use Rattle.std.specs.declared.cmp.Ordering.TheVariants.{Less}
-use Rattle.std.specs.List.{ContainsAt, AllByRecursion}
+use Rattle.std.specs.List.{Contains, AllByRecursion}
 use Rattle.std.specs.Option.{option_to_list}
 use Rattle.kinds.specs.Meaning.{Meaning}
 use Rattle.plain.specs.declared.point.Key.{Key}
@@ -51,11 +51,11 @@ module _ {C W R : Type 0} (m : Meaning C W R) where
 
   -- what is tested at a leaf: its point is fit and before the end, and it keeps no other
   abbrev pub LeafPasses : Point C W → Option (Point C W) → Option (Key C) → Type 0
-  LeafPasses x o u = FitPoint m x × Under u x.key × AllByRecursion (ContainsAt (x ∷ [])) (option_to_list o)
+  LeafPasses x o u = FitPoint m x × Under u x.key × AllByRecursion (Contains (x ∷ [])) (option_to_list o)
 
   -- what is tested at a fork: 2 to 4 children, of which the first has its key, and it keeps one of their points if any
   abbrev pub ForkPasses : Key C → Option (Point C W) → Forest C W → Type 0
-  ForkPasses k o ts = (2 ≤ count ts) × (count ts ≤ 4) × Heads k ts × AllByRecursion (ContainsAt (points_all ts)) (option_to_list o)
+  ForkPasses k o ts = (2 ≤ count ts) × (count ts ≤ 4) × Heads k ts × AllByRecursion (Contains (points_all ts)) (option_to_list o)
 
   abbrev mutual
     -- a tree of height h passes, whose keys end before u

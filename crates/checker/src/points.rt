@@ -1,6 +1,6 @@
 // Whether a point stands in some trees of one height, which have no root in common.
 ghost use Rattle.std.specs.Prelude.{◌≡◌, true};
-ghost use Rattle.std.specs.List.{ContainsAt};
+ghost use Rattle.std.specs.List.{Contains};
 ghost use Rattle.trees.specs.Tree.{grow, points_all};
 ghost use Rattle.table.specs.Reading.{point_in, tree_at};
 
@@ -15,7 +15,7 @@ pub fn has_point<K: Kind<Coordinate = u64, Recorded = u32>>(
     height: u8,
     x: Stored<u64, u32>,
 ) -> bool
-    ensures { result ≡ true → ContainsAt (points_all (grow (tree_at K.Kind.meaning nodes.now height) places.now)) (point_in K.Kind.meaning x) }
+    ensures { result ≡ true → Contains (points_all (grow (tree_at K.Kind.meaning nodes.now height) places.now)) (point_in K.Kind.meaning x) }
 {
     let [first, rest @ ..] = places else {
         return false;

@@ -1,7 +1,7 @@
 // The rules of the tree, tested node by node, in trees of one height, which have no root in common.
 ghost use Rattle.std.specs.Prelude.{◌≡◌, true, Some, None};
 ghost use Rattle.plain.specs.Points.{FitPoint};
-ghost use Rattle.std.specs.List.{ContainsAt, AllByRecursion};
+ghost use Rattle.std.specs.List.{Contains, AllByRecursion};
 ghost use Rattle.std.specs.Option.{option_to_list};
 ghost use Rattle.trees.specs.Tree.{grow, points_all};
 ghost use Rattle.table.specs.Kids.{kids_of};
@@ -72,7 +72,7 @@ fn keeps_own<K: Kind<Coordinate = u64, Recorded = u32>>(
     n: Node<u64, u32>,
     height: u8,
 ) -> bool
-    ensures { result ≡ true → AllByRecursion (ContainsAt (points_all (grow (tree_at K.Kind.meaning nodes.now height) (kids_of n.children)))) (option_to_list (kept_in K.Kind.meaning n)) }
+    ensures { result ≡ true → AllByRecursion (Contains (points_all (grow (tree_at K.Kind.meaning nodes.now height) (kids_of n.children)))) (option_to_list (kept_in K.Kind.meaning n)) }
 {
     n.kept.is_none_or(|x| has_point::<K>(nodes, n.children.as_slice(), height, x))
 }

@@ -2,9 +2,9 @@
 use Rattle.std.proofs.Common.{◌≡◌, ℕ, ◌+◌, ◌≤◌, Bool, true, false, cond, eqb, ◌⊎◌, List, [], ◌∷◌, ◌++◌, sym, refl, ap, ◌∙◌, subst, inl, inr, arith}
 use base.Stored.{Gv, gnil, gnum, gcons, Coded}
 use Rattle.std.specs.List.Sorted.{IsPermutation}
-use Rattle.std.specs.List.{ContainsAt, AllByRecursion}
+use Rattle.std.specs.List.{Contains, AllByRecursion}
 use Rattle.std.proofs.lemmas.Bool.{both_ways, eqb-true, eq-eqb, cond-true}
-use Rattle.std.proofs.ByRecursion.{has_append_right}
+use Rattle.std.proofs.lemmas.List.Elements.{Contains-append_right}
 use Rattle.std.proofs.lemmas.List.Sorted.{IsPermutation-refl, IsPermutation-cons, IsPermutation-trans, IsPermutation-sym, IsPermutation-middle}
 use Rattle.plain.specs.declared.point.Point.{Point}
 use Rattle.trees.specs.Heap.{total}
@@ -48,10 +48,10 @@ module _ {X : Type 0} where
     here : (xs : List X) → Member x (x ∷ xs)
     there : (y : X) (xs : List X) → Member x xs → Member x (y ∷ xs)
 
-  pub has_of : (x : X) (xs : List X) → Member x xs → ContainsAt xs x
+  pub has_of : (x : X) (xs : List X) → Member x xs → Contains xs x
   has_of x [] i = elim i [ ]
-  has_of x (y ∷ ys) (here _) = (0, omega arith, λ d. refl)
-  has_of x (y ∷ ys) (there _ _ i) = has_append_right (y ∷ []) ys x (has_of x ys i)
+  has_of x (y ∷ ys) (here _) = (0, omega arith, refl)
+  has_of x (y ∷ ys) (there _ _ i) = Contains-append_right (y ∷ []) ys x (has_of x ys i)
 
   pub all_of : (P : X → Type 0) (xs : List X) → ((x : X) → Member x xs → P x) → AllByRecursion P xs
   all_of P [] k = tt
@@ -113,7 +113,7 @@ module _ {C W : Type 0} (kc : Coded C) (kw : Coded W) where
       go (inr e) ih = subst (λ w. Member x (w ∷ ys)) e (here ys)
 
   -- a point that each sum counts is there
-  pub has-among : (x : Point C W) (xs : List (Point C W)) → ((f : Point C W → ℕ) → f x ≤ total f xs) → ContainsAt xs x
+  pub has-among : (x : Point C W) (xs : List (Point C W)) → ((f : Point C W → ℕ) → f x ≤ total f xs) → Contains xs x
   has-among x xs h = has_of x xs (member x xs (omega (arith, h (is x), is-self x)))
 
   -- lists with the same sums have the same points, each as often

@@ -3,9 +3,9 @@ use Rattle.std.proofs.Common.{◌≡◌, ℕ, ◌+◌, ◌<◌, ◌≤◌, Bool,
 use base.Stored.{Coded}
 use Rattle.std.specs.Ordering.{is_lt, ordering_reverse}
 use Rattle.std.specs.Option.{option_to_list}
-use Rattle.std.specs.List.{ContainsAt, AllByRecursion}
+use Rattle.std.specs.List.{Contains, AllByRecursion}
 use Rattle.std.proofs.lemmas.Bool.{cases_lt, cond-false}
-use Rattle.std.proofs.ByRecursion.{All-append, All-weaker, all-has, has_append_left, has_append_right}
+use Rattle.std.proofs.lemmas.List.Elements.{Contains-append_left, Contains-append_right}
 use Rattle.std.proofs.lemmas.List.Sums.{sum_by-cons}
 use Rattle.std.proofs.lemmas.List.Sorted.{sum_by-IsPermutation}
 use Rattle.kinds.specs.Meaning.{Meaning, First, Second}
@@ -18,6 +18,7 @@ use Rattle.trees.specs.Tree.{Tree, Forest, gone, leaf, fork, none, more, points,
 use Rattle.trees.specs.Rules.{kept, kept_all, OnPath, OnPathAll, Filled, FilledAll, Ranked, RankedAll, Rules}
 use Rattle.trees.specs.Heap.{total, held, tally, tally_all, over, Full, Heap, HeapAll, Sorted}
 use Rattle.trees.proofs.Forests.{total-++}
+use Rattle.trees.proofs.Each.{each-append, each-weaker, each-has}
 use Rattle.kept.proofs.Sums.{total-none}
 use Rattle.kept.proofs.Risings.{all_left, all_right}
 use Rattle.kept.proofs.Apart.{Member, here, there, all_of, around, member-le, is, is-self, tell, member}
@@ -28,22 +29,22 @@ module _ {C W : Type 0} where
   total-sum f [] = refl
   total-sum f (x ∷ xs) = ap (λ n. f x + n) (total-sum f xs) ∙ sym (sum_by-cons f x xs)
 
-  has-le : (f : Point C W → ℕ) (x : Point C W) (xs : List (Point C W)) → ContainsAt xs x → f x ≤ total f xs
-  has-le f x xs h = all-has (λ w. f w ≤ total f xs) xs x (all_of (λ w. f w ≤ total f xs) xs (λ w i. member-le f w xs i)) h
+  has-le : (f : Point C W → ℕ) (x : Point C W) (xs : List (Point C W)) → Contains xs x → f x ≤ total f xs
+  has-le f x xs h = each-has (λ w. f w ≤ total f xs) xs x (all_of (λ w. f w ≤ total f xs) xs (λ w i. member-le f w xs i)) h
 
   -- each point kept is one of the tree's
   mutual
-    kept-has : (t : Tree C W) → OnPath t → AllByRecursion (ContainsAt (points t)) (kept t)
+    kept-has : (t : Tree C W) → OnPath t → AllByRecursion (Contains (points t)) (kept t)
     kept-has (gone p) on = tt
     kept-has (leaf p x o) on = on
-    kept-has (fork p k o ts) (own, on) = All-append (ContainsAt (points_all ts)) (option_to_list o) (kept_all ts) own (kept-hases ts on)
+    kept-has (fork p k o ts) (own, on) = each-append (Contains (points_all ts)) (option_to_list o) (kept_all ts) own (kept-hases ts on)
 
-    kept-hases : (ts : Forest C W) → OnPathAll ts → AllByRecursion (ContainsAt (points_all ts)) (kept_all ts)
+    kept-hases : (ts : Forest C W) → OnPathAll ts → AllByRecursion (Contains (points_all ts)) (kept_all ts)
     kept-hases none on = tt
     kept-hases (more t ts) (on, ons) =
-        All-append (ContainsAt (points t ++ points_all ts)) (kept t) (kept_all ts)
-        (All-weaker (ContainsAt (points t)) (ContainsAt (points t ++ points_all ts)) (λ x. has_append_left (points t) (points_all ts) x) (kept t) (kept-has t on))
-        (All-weaker (ContainsAt (points_all ts)) (ContainsAt (points t ++ points_all ts)) (λ x. has_append_right (points t) (points_all ts) x) (kept_all ts) (kept-hases ts ons))
+        each-append (Contains (points t ++ points_all ts)) (kept t) (kept_all ts)
+        (each-weaker (Contains (points t)) (Contains (points t ++ points_all ts)) (λ x. Contains-append_left (points t) (points_all ts) x) (kept t) (kept-has t on))
+        (each-weaker (Contains (points_all ts)) (Contains (points t ++ points_all ts)) (λ x. Contains-append_right (points t) (points_all ts) x) (kept_all ts) (kept-hases ts ons))
 
 module _ {C W R : Type 0} (m : Meaning C W R) (first : First m) (second : Second m) (kc : Coded C) (kw : Coded W) where
   -- ---- points that rise have each point once
@@ -80,10 +81,10 @@ module _ {C W R : Type 0} (m : Meaning C W R) (first : First m) (second : Second
       let below = sums-le xs (u ++ v) (λ z. omega (arith, h z, split (is kc kw z), total-++ (is kc kw z) u v)) f in
       omega (arith, split f, total-++ f u v)
 
-  counts-le : (xs ys : List (Point C W)) → ((z : Point C W) → total (is kc kw z) xs ≤ 1) → AllByRecursion (ContainsAt ys) xs → (z : Point C W) → total (is kc kw z) xs ≤ total (is kc kw z) ys
+  counts-le : (xs ys : List (Point C W)) → ((z : Point C W) → total (is kc kw z) xs ≤ 1) → AllByRecursion (Contains ys) xs → (z : Point C W) → total (is kc kw z) xs ≤ total (is kc kw z) ys
   counts-le xs ys one has z = go (cases_lt 0 (total (is kc kw z) xs))
     where
-      among : (ws : List (Point C W)) → AllByRecursion (ContainsAt ys) ws → Member z ws → ContainsAt ys z
+      among : (ws : List (Point C W)) → AllByRecursion (Contains ys) ws → Member z ws → Contains ys z
       among [] a i = elim i [ ]
       among (w ∷ ws) (h, a) (here _) = h
       among (w ∷ ws) (h, a) (there _ _ i) = among ws a i
@@ -102,7 +103,7 @@ module _ {C W R : Type 0} (m : Meaning C W R) (first : First m) (second : Second
   over-kept None ts fo fs fill rk = sym (kept-totals (over m None) ts) ∙ ap (total (over m None)) (fill refl)
   over-kept (Some x) ts fo fs fill rk = sym (kept-totals (over m (Some x)) ts) ∙ over_none x fo.0 (kept_all ts) fs rk.0
 
-  leaf-kept : (x : Point C W) (o : Option (Point C W)) → AllByRecursion (ContainsAt (x ∷ [])) (option_to_list o) → (f : Point C W → ℕ) → held f o ≤ f x
+  leaf-kept : (x : Point C W) (o : Option (Point C W)) → AllByRecursion (Contains (x ∷ [])) (option_to_list o) → (f : Point C W → ℕ) → held f o ≤ f x
   leaf-kept x None h f = omega arith
   leaf-kept x (Some y) h f = omega (arith, has-le f y (x ∷ []) h.0)
 
@@ -113,7 +114,7 @@ module _ {C W R : Type 0} (m : Meaning C W R) (first : First m) (second : Second
     heap_of (fork p k o ts) fit on fill rk one =
         let t = fork p k o ts in
         let has = kept-has t on in
-        let fits = All-weaker (ContainsAt (points_all ts)) (FitPoint m) (λ x h. all-has (FitPoint m) (points_all ts) x fit h) (option_to_list o ++ kept_all ts) has in
+        let fits = each-weaker (Contains (points_all ts)) (FitPoint m) (λ x h. each-has (FitPoint m) (points_all ts) x fit h) (option_to_list o ++ kept_all ts) has in
         let le = sums-le (kept t) (points_all ts) (counts-le (kept t) (points_all ts) (λ z. omega (arith, kept-total (is kc kw z) t, one z)) has) in (
           (λ f. omega (arith, le f, kept-total f t)),
           over-kept o ts (all_left (FitPoint m) (option_to_list o) (kept_all ts) fits) (all_right (FitPoint m) (option_to_list o) (kept_all ts) fits) fill.0 rk.0,

@@ -2,7 +2,6 @@
 use Rattle.std.proofs.Common.{◌≡◌, ℕ, suc, ◌<◌, ◌≤◌, Bool, true, false, cond, ◌≢◌, List, [], ◌∷◌, ◌++◌, Some, sym, refl, ap, ◌∙◌, arith}
 use Rattle.std.specs.Ordering.{is_eq}
 use Rattle.std.specs.List.{AllByRecursion}
-use Rattle.std.proofs.ByRecursion.{All-append}
 use Rattle.std.proofs.lemmas.Bool.{cond-false}
 use Rattle.kinds.specs.Meaning.{Meaning, First, Second}
 use Rattle.plain.specs.declared.point.Key.{Key}
@@ -16,6 +15,7 @@ use Rattle.trees.specs.Rules.{Level, LevelAll, FirstKey, Keyed, KeyedAll}
 use Rattle.trees.specs.Kept.{is_before, run, pick}
 use Rattle.trees.specs.Heap.{total, SortedAll}
 use Rattle.trees.proofs.Forests.{points-⊕, total-++, split-nth}
+use Rattle.trees.proofs.Each.{each-append}
 use Rattle.kept.proofs.Risings.{rising-right, rising-cross, first_more, later-all, sooner-all}
 use Rattle.kept.proofs.Sums.{total-none}
 use Rattle.kept.proofs.Onlys.{only, only-late, only-soon}
@@ -56,7 +56,7 @@ module _ {C W R : Type 0} (m : Meaning C W R) (first : First m) (second : Second
       step : (j : Key C) → key_of u ≡ Some j → FirstKey j (points_all (more u us)) → Rising m (points_all (more u us)) → (b : Bool) → is_before m k (key_of u) ≡ b → Sides k (run m k us) (more u us) → Sides k (cond b 0 (suc (run m k us))) (more t (more u us))
       step j e f rr true q ih = (tt, later-all m first k j (points_all (more u us)) f rr (lt-less (key_order m k j) (sym (ap (is_before m k) e) ∙ q)))
       step j e f rr false q ih = (
-        All-append (λ x. Before m x.key k) (points t) (points_all (front (run m k us) (more u us)))
+        each-append (λ x. Before m x.key k) (points t) (points_all (front (run m k us) (more u us)))
             (sooner-all m first k j (points t) (points_all (more u us)) f (rising-cross m (points t) (points_all (more u us)) r) (sym (ap (is_before m k) e) ∙ q))
             ih.0,
         ih.1,

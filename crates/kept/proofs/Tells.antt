@@ -4,7 +4,7 @@ use Rattle.std.proofs.lemmas.Bool.{both_ways}
 use base.Stored.{Coded}
 use Rattle.std.specs.Ordering.{is_lt, is_eq, ordering_reverse}
 use Rattle.std.specs.Option.{option_to_list}
-use Rattle.std.specs.List.{ContainsAt, AllByRecursion}
+use Rattle.std.specs.List.{Contains, AllByRecursion}
 use Rattle.kinds.specs.Meaning.{Meaning, First, Second}
 use Rattle.plain.specs.declared.point.Point.{Point}
 use Rattle.plain.specs.Points.{key_order, rank_order, FitPoint}
@@ -105,7 +105,7 @@ module _ {C W R : Type 0} (m : Meaning C W R) (first : First m) (second : Second
     )
 
   module _ (kc : Coded C) (kw : Coded W) where
-    kept_here : (o : Option (Point C W)) (xs : List (Point C W)) → ((f : Point C W → ℕ) → held f o ≤ total f xs) → AllByRecursion (ContainsAt xs) (option_to_list o)
+    kept_here : (o : Option (Point C W)) (xs : List (Point C W)) → ((f : Point C W → ℕ) → held f o ≤ total f xs) → AllByRecursion (Contains xs) (option_to_list o)
     kept_here None xs h = tt
     kept_here (Some x) xs h = (has-among kc kw x xs h, tt)
 

@@ -1,10 +1,10 @@
 -- From the table to the tree: what is known of a sound tree, and a node written again after the tree of one child has changed.
 use Rattle.std.proofs.Common.{◌≡◌, ℕ, zero, suc, ◌+◌, ◌<◌, ◌≤◌, Bool, true, false, cond, ltb, List, [], ◌∷◌, length, get_or, set, Some, None, Option, refl, ap, ◌∙◌, subst, arith, ltb-true}
 use Rattle.std.specs.List.{slice_get, AllByRecursion}
-use Rattle.std.proofs.ByRecursion.{All-from_get_or}
 use Rattle.kinds.specs.Meaning.{Meaning}
 use Rattle.trees.specs.Tree.{Tree, Forest, gone, leaf, fork, none, more, grow, hit, uses, uses_all, count, nth_tree, place_of, alter}
 use Rattle.trees.specs.Rules.{Level, LevelAll, Degrees, DegreesAll}
+use Rattle.trees.proofs.Each.{each-from}
 use Rattle.table.specs.declared.node.Node.{Node}
 use Rattle.table.specs.Kids.{kids_of}
 use Rattle.table.specs.Reading.{point_in, kept_in, leaf_of, fork_of, tree_at, inside, Sound, Sounds, Became}
@@ -97,7 +97,7 @@ module _ {C W R : Type 0} (m : Meaning C W R) where
           (sound-nth (length ns) h i (below ns h n) kids-sound (omega (arith, count-grow (tree_at m ns h) (kids n))))
 
       pub kids-within : AllByRecursion (λ q. q < length ns) (kids n)
-      kids-within = All-from_get_or (λ q. q < length ns) (kids n) 0 (λ i lt. sound-within ns h (get_or (kids n) i 0) (kid-sound i lt))
+      kids-within = each-from (λ q. q < length ns) (kids n) 0 (λ i lt. sound-within ns h (get_or (kids n) i 0) (kid-sound i lt))
 
   -- ---- one child has changed
   module _ (a b : List (Node C R)) (h : ℕ) (f : Tree C W → Tree C W) where

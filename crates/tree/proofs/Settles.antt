@@ -2,13 +2,13 @@
 use Rattle.std.proofs.Common.{◌≡◌, ℕ, suc, ◌+◌, ◌<◌, ◌≤◌, Bool, true, false, cond, eqb, ◌⊎◌, List, [], ◌∷◌, length, get_or, set, Some, None, unwrap_or, sym, refl, ap, ◌∙◌, subst, inl, inr, arith, eqb-true}
 use borrow.Author.Tests.{lt-true}
 use Rattle.std.specs.List.{slice_get, AllByRecursion}
-use Rattle.std.proofs.ByRecursion.{All-from_get_or}
 use Rattle.kinds.specs.Meaning.{Meaning}
 use Rattle.plain.specs.declared.point.Key.{Key}
 use Rattle.plain.specs.declared.point.Point.{Point}
 use Rattle.trees.specs.Tree.{fork, grow, hit, uses, uses_all, alter}
 use Rattle.trees.specs.Kept.{pull, push}
 use Rattle.trees.specs.Moves.{first_key, settled}
+use Rattle.trees.proofs.Each.{each-from}
 use Rattle.table.specs.declared.node.Node.{Node}
 use Rattle.table.specs.declared.children.Children.{Children}
 use Rattle.table.specs.Kids.{kids_of}
@@ -28,7 +28,7 @@ module _ {C W R : Type 0} (m : Meaning C W R) where
     tree-sound i lt = subst (Sound (length a) h) (nth-grow (tree_at m a h) i ps lt) (sound-nth (length a) h i (grow (tree_at m a h) ps) s (omega (arith, count-grow (tree_at m a h) ps)))
 
     pub trees-within : AllByRecursion (λ q. q < length a) ps
-    trees-within = All-from_get_or (λ q. q < length a) ps 0 (λ i lt. sound-within m a h (get_or ps i 0) (tree-sound i lt))
+    trees-within = each-from (λ q. q < length a) ps 0 (λ i lt. sound-within m a h (get_or ps i 0) (tree-sound i lt))
 
     pub tree-uses : (i : ℕ) → i < length ps → (q : ℕ) → uses (tree_at m a h (get_or ps i 0)) q ≤ uses_all (grow (tree_at m a h) ps) q
     tree-uses i lt q = subst (λ t. uses t q ≤ uses_all (grow (tree_at m a h) ps) q) (nth-grow (tree_at m a h) i ps lt) (uses-nth (grow (tree_at m a h) ps) i q (omega (arith, count-grow (tree_at m a h) ps)))

@@ -1,2 +1,3 @@
 pub mod Forests
 pub mod Bares
+pub mod Each

@@ -1,7 +1,7 @@
 -- The rules of the tree.
 use Rattle.std.specs.Prelude.{◌≡◌, ℕ, zero, suc, ◌≤◌, List, [], ◌∷◌, ◌++◌, None}
 use Rattle.std.specs.declared.cmp.Ordering.TheVariants.{Less}
-use Rattle.std.specs.List.{ContainsAt, AllByRecursion}
+use Rattle.std.specs.List.{Contains, AllByRecursion}
 use Rattle.std.specs.List.Sorted.{IsPermutation}
 use Rattle.std.specs.Option.{option_to_list}
 use Rattle.kinds.specs.Meaning.{Meaning}
@@ -66,8 +66,8 @@ module _ {C W : Type 0} where
     -- each point is kept at a node on the way to its leaf: it is one of the node's own points
     pub OnPath : Tree C W → Type 0
     OnPath (gone p) = Unit {0}
-    OnPath (leaf p x o) = AllByRecursion (ContainsAt (x ∷ [])) (option_to_list o)
-    OnPath (fork p k o ts) = AllByRecursion (ContainsAt (points_all ts)) (option_to_list o) × OnPathAll ts
+    OnPath (leaf p x o) = AllByRecursion (Contains (x ∷ [])) (option_to_list o)
+    OnPath (fork p k o ts) = AllByRecursion (Contains (points_all ts)) (option_to_list o) × OnPathAll ts
 
     pub OnPathAll : Forest C W → Type 0
     OnPathAll none = Unit {0}

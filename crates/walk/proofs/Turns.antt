@@ -3,10 +3,10 @@ use Rattle.std.proofs.Common.{◌≡◌, ℕ, zero, suc, ◌+◌, ◌*◌, ◌�
 use Rattle.std.proofs.lemmas.Grind.{flat_map-append}
 use mathlib.Core.List.{map-append}
 use Rattle.std.specs.List.{slice_get, flat_map, AllByRecursion}
-use Rattle.std.proofs.ByRecursion.{All-append, All-from_get_or}
 use Rattle.kinds.specs.Meaning.{Meaning}
 use Rattle.plain.specs.declared.point.Point.{Point}
 use Rattle.trees.specs.Tree.{fork, kept_by}
+use Rattle.trees.proofs.Each.{each-append, each-from}
 use Rattle.walked.specs.Walk.{starts_by, walk, walk_all}
 use Rattle.walked.proofs.Stacks.{walk-open}
 use Rattle.table.specs.declared.node.Node.{Node}
@@ -33,7 +33,7 @@ open-few {C = C} m ns h l u (p ∷ ps) = omega (arith, open-few m ns h l u ps, l
 -- what holds of an entry for each child holds of those that join
 pub open-all : {C W R : Type 0} (m : Meaning C W R) (ns : List (Node C R)) (h : ℕ) (l u : C) (P : Subtree → Type 0) (ps : List ℕ) → AllByRecursion (λ p. P (entry p h)) ps → AllByRecursion P (open_entries m ns h l u ps)
 open-all m ns h l u P [] a = tt
-open-all m ns h l u P (p ∷ ps) a = All-append P (cond (starts_by m u (key_at ns p) && reaches_at m ns l ps) (entry p h ∷ []) []) (open_entries m ns h l u ps) (one (starts_by m u (key_at ns p) && reaches_at m ns l ps)) (open-all m ns h l u P ps a.1)
+open-all m ns h l u P (p ∷ ps) a = each-append P (cond (starts_by m u (key_at ns p) && reaches_at m ns l ps) (entry p h ∷ []) []) (open_entries m ns h l u ps) (one (starts_by m u (key_at ns p) && reaches_at m ns l ps)) (open-all m ns h l u P ps a.1)
   where
     one : (b : Bool) → AllByRecursion P (cond b (entry p h ∷ []) [])
     one true = (a.0, tt)
@@ -88,9 +88,9 @@ module _ {C W R : Type 0} (m : Meaning C W R) (leads : Option (Point C W) → Bo
   -- the entries that join name sound trees, and the stack has room for them
   pub sound-on : (ns : List (Node C R)) (e : Subtree) (es : List Subtree) (n : Node C R) → slice_get ns e.root ≡ Some n → (h : ℕ) → e.height ≡ suc h → AllSound m ns (e ∷ es) → AllSound m ns (open_entries m ns h l u (kids m n) ++ es)
   sound-on ns e es n is h up s =
-      All-append (λ d. Sound (length ns) d.height (tree_of m ns d)) (open_entries m ns h l u (kids m n)) es
+      each-append (λ d. Sound (length ns) d.height (tree_of m ns d)) (open_entries m ns h l u (kids m n)) es
       (open-all m ns h l u (λ d. Sound (length ns) d.height (tree_of m ns d)) (kids m n)
-      (All-from_get_or (λ p. Sound (length ns) h (tree_at m ns h p)) (kids m n) 0 (kid-sound m ns h e.root n is (subst (λ k. Sound (length ns) k (tree_at m ns k e.root)) up s.0))))
+      (each-from (λ p. Sound (length ns) h (tree_at m ns h p)) (kids m n) 0 (kid-sound m ns h e.root n is (subst (λ k. Sound (length ns) k (tree_at m ns k e.root)) up s.0))))
       s.1
 
   pub rooms-after : (ns : List (Node C R)) (e : Subtree) (es : List Subtree) (n : Node C R) (h : ℕ) → e.height ≡ suc h → Rooms (e ∷ es) → Rooms (open_entries m ns h l u (kids m n) ++ es)

@@ -1,7 +1,6 @@
 -- How many nodes a walk from the root visits and takes.
 use Rattle.std.proofs.Common.{◌≡◌, ℕ, zero, suc, ◌+◌, ◌*◌, ◌≤◌, false, not, T, leb, [], length, refl, ap, ◌∙◌, arith, length-take}
 use Rattle.std.specs.List.{AllByRecursion}
-use Rattle.std.proofs.ByRecursion.{All-weaker}
 use Rattle.std.proofs.lemmas.List.Sorted.{length_permutation}
 use Rattle.std.proofs.lemmas.Bool.{leb-true, leb-false, not_from_false}
 use Rattle.kinds.specs.Meaning.{Meaning, First, Second}
@@ -9,6 +8,7 @@ use Rattle.plain.specs.declared.point.Key.{Key}
 use Rattle.plain.specs.Windows.{later, window, matches, firsts}
 use Rattle.trees.specs.Tree.{Tree, Forest, gone, leaf, fork, none, more, points, points_all}
 use Rattle.trees.specs.Rules.{Rules}
+use Rattle.trees.proofs.Each.{each-weaker}
 use Rattle.walked.specs.Walk.{starts_by, always, walk_all, visits, ranged, taken, shown, first_taken, listed, Log, most_visited, most_taken}
 use Rattle.walked.proofs.Parts.{by-test, all-parts}
 use Rattle.walked.proofs.Uptos.{Upto, Past, Unfalling, unfalling, past_after}
@@ -34,7 +34,7 @@ module _ {C W R : Type 0} (m : Meaning C W R) (first : First m) (l u : C) where
   past (gone p) k r e = omega arith
   past (leaf p x o) k r e = omega arith
   past (fork p j o ts) (f, k) r e =
-      omega (arith, ap length (none_open ts k (All-weaker (λ p. Upto m j.at p.key.at) (λ p. Past m p.key.at u) (λ p g. past_after m first j.at p.key.at u g e) (points_all ts) (mark-ahead m first (fork p j o ts) (f, k) r))))
+      omega (arith, ap length (none_open ts k (each-weaker (λ p. Upto m j.at p.key.at) (λ p. Past m p.key.at u) (λ p g. past_after m first j.at p.key.at u g e) (points_all ts) (mark-ahead m first (fork p j o ts) (f, k) r))))
 
 module _ {C W R : Type 0} (m : Meaning C W R) (first : First m) (a b h : ℕ) (t : Tree C W) (rules : Rules m a b h t) (l u : C) where
   -- ---- by the height

@@ -1,8 +1,8 @@
 -- What a list costs in which an element fails a test.
 use Rattle.std.proofs.Common.{◌≡◌, ℕ, ◌+◌, ◌≤◌, Bool, true, false, cond, ◌⊎◌, List, [], ◌∷◌, ◌++◌, sym, refl, ◌∙◌, inl, inr, arith}
-use Rattle.std.specs.List.{ContainsAt, AllByRecursion}
+use Rattle.std.specs.List.{Contains, AllByRecursion}
 use Rattle.std.proofs.lemmas.Bool.{true≢false}
-use Rattle.std.proofs.ByRecursion.{all-has}
+use Rattle.trees.proofs.Each.{each-has}
 
 -- x, if some element fails the test
 abbrev pub cost : {X : Type 0} → (X → Bool) → ℕ → List X → ℕ
@@ -32,11 +32,11 @@ module _ {X : Type 0} (p : X → Bool) where
       go true e (inr f) = inr (λ x. rw e (f x))
       go false e w = inr (λ x. rw e)
 
-  pub cost-fails : (x : ℕ) (y : X) (ys : List X) → p y ≡ false → ContainsAt ys y → cost p x ys ≡ x
+  pub cost-fails : (x : ℕ) (y : X) (ys : List X) → p y ≡ false → Contains ys y → cost p x ys ≡ x
   cost-fails x y ys f h = go (cost-ways ys)
     where
       go : AllByRecursion (λ z. p z ≡ true) ys ⊎ ((x : ℕ) → cost p x ys ≡ x) → cost p x ys ≡ x
-      go (inl a) = absurd (true≢false (sym (all-has (λ z. p z ≡ true) ys y a h) ∙ f))
+      go (inl a) = absurd (true≢false (sym (each-has (λ z. p z ≡ true) ys y a h) ∙ f))
       go (inr g) = g x
 
   pub cost-add : (x z : ℕ) (ys : List X) → cost p (x + z) ys ≡ cost p x ys + cost p z ys

@@ -1,12 +1,12 @@
 -- What a tree pays for points on either side of the window.
 use Rattle.std.proofs.Common.{◌≡◌, ℕ, ◌+◌, ◌≤◌, true, false, not, ◌⊎◌, List, ◌++◌, ap, ◌∙◌, inl, inr, ⊎_elim, arith}
-use Rattle.std.specs.List.{ContainsAt, AllByRecursion}
-use Rattle.std.proofs.ByRecursion.{All-weaker}
+use Rattle.std.specs.List.{Contains, AllByRecursion}
 use Rattle.std.proofs.lemmas.Bool.{and_cases}
 use Rattle.kinds.specs.Meaning.{Meaning, First}
 use Rattle.plain.specs.declared.point.Point.{Point}
 use Rattle.plain.specs.Windows.{later, inside}
 use Rattle.trees.specs.Tree.{Tree, Forest, points, points_all}
+use Rattle.trees.proofs.Each.{each-weaker}
 use Rattle.walked.specs.Walk.{opens}
 use Rattle.walked.proofs.Costs.{cost, cost-most, cost-all, cost-fails, cost-ways, cost-add, cost-left, cost-right}
 use Rattle.walked.proofs.Uptos.{Upto, Past, Unfalling, unfalling-parts}
@@ -55,7 +55,7 @@ module _ {C W R : Type 0} (m : Meaning C W R) where
     late-right x ps qs = cost-right (λ p. not (later m p.key.at u)) x ps qs
 
   -- a point outside the window is paid for
-  pub outside : (l u : C) (q : Point C W) (ps : List (Point C W)) → ContainsAt ps q → inside m l u q.key.at ≡ false → (x : ℕ) → x ≤ early l x ps + late u x ps
+  pub outside : (l u : C) (q : Point C W) (ps : List (Point C W)) → Contains ps q → inside m l u q.key.at ≡ false → (x : ℕ) → x ≤ early l x ps + late u x ps
   outside l u q ps i w x =
       ⊎_elim
       (λ (e : Past m l q.key.at). omega (arith, cost-fails (λ p. not (later m l p.key.at)) x q ps e i))
@@ -73,6 +73,6 @@ module _ {C W R : Type 0} (m : Meaning C W R) where
       record {
         behind = λ x. cost-all (λ p. not (later m l p.key.at)) x (points_all ts) (behind-open m first l u t ts o k b);
         ahead =
-            ⊎_elim (λ f. inl (λ x. cost-all (λ p. not (later m p.key.at u)) x (points t) (All-weaker (λ p. AllByRecursion (λ q. Upto m p.key.at q.key.at) (points_all ts)) (λ p. Upto m p.key.at u) (λ p h. f p.key.at h) (points t) c)))
+            ⊎_elim (λ f. inl (λ x. cost-all (λ p. not (later m p.key.at u)) x (points t) (each-weaker (λ p. AllByRecursion (λ q. Upto m p.key.at q.key.at) (points_all ts)) (λ p. Upto m p.key.at u) (λ p h. f p.key.at h) (points t) c)))
             (λ s. inr s) (before-open m first l u ts k);
       }

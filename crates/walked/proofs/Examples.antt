@@ -28,7 +28,7 @@ ruled = record {
   degrees = (omega arith, omega arith, (tt, (tt, (tt, tt))));
   keyed = (refl, (tt, (tt, (tt, tt))));
   once = record { moves = (0, 1) ∷ []; below = (omega arith, omega arith, tt); is = refl };
-  on_path = (((1, omega arith, λ d. refl), tt), (((0, omega arith, λ d. refl), tt), (tt, (((0, omega arith, λ d. refl), tt), tt))));
+  on_path = (((1, omega arith, refl), tt), (((0, omega arith, refl), tt), (tt, (((0, omega arith, refl), tt), tt))));
   filled = (λ e. absurd (let z : ◌≡◌ {A = ℕ} 0 1 = cc in omega arith), (tt, (tt, (tt, tt))));
   ranked = (((refl, (refl, tt)), tt), (tt, (tt, (tt, tt))));
 }

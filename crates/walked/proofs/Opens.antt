@@ -1,13 +1,13 @@
 -- Open children: what keys say of the coordinates below them.
 use Rattle.std.proofs.Common.{◌≡◌, ◌≤◌, Bool, true, false, ◌⊎◌, [], ◌++◌, length, Option, sym, refl, ap, ◌∙◌, inl, inr, arith}
 use Rattle.std.specs.List.{AllByRecursion}
-use Rattle.std.proofs.ByRecursion.{All-weaker}
 use Rattle.std.proofs.lemmas.Bool.{true≢false, and_parts, and_cases, and_left, and_right}
 use Rattle.kinds.specs.Meaning.{Meaning, First}
 use Rattle.plain.specs.declared.point.Key.{Key}
 use Rattle.plain.specs.declared.point.Point.{Point}
 use Rattle.plain.specs.Windows.{inside}
 use Rattle.trees.specs.Tree.{Tree, Forest, none, more, key_of, count, points, points_all}
+use Rattle.trees.proofs.Each.{each-weaker}
 use Rattle.walked.specs.Walk.{starts_by, starts_from, reaches_right, opens, open_of, walk_all}
 use Rattle.walked.proofs.Parts.{by-test, all-parts}
 use Rattle.walked.proofs.Uptos.{Upto, Past, Unfalling, unfalling-parts, upto-trans, past_after, past-before}
@@ -38,7 +38,7 @@ module _ {C W R : Type 0} (m : Meaning C W R) where
     pub behind-open : (t : Tree C W) (ts : Forest C W) → opens m l u t ts ≡ true → MarkedAll ts → Unfalling m (points_all ts) → AllByRecursion (λ p. Upto m l p.key.at) (points_all ts)
     behind-open t none o k r = tt
     behind-open t (more d ts) o (k, ks) r =
-        All-weaker (λ p. Upto m (mark d k).at p.key.at) (λ p. Upto m l p.key.at) (λ p e. upto-trans m first l (mark d k).at p.key.at (open-reaches l u t d ts k o) e) (points d ++ points_all ts) (mark-before m first d k (points_all ts) r)
+        each-weaker (λ p. Upto m (mark d k).at p.key.at) (λ p. Upto m l p.key.at) (λ p e. upto-trans m first l (mark d k).at p.key.at (open-reaches l u t d ts k o) e) (points d ++ points_all ts) (mark-before m first d k (points_all ts) r)
 
     -- what comes before all points of trees with an open one is not later than u; or else none is open
     pub before-open : (ts : Forest C W) → MarkedAll ts → ((x : C) → AllByRecursion (λ q. Upto m x q.key.at) (points_all ts) → Upto m x u) ⊎ Shut l u ts
@@ -62,11 +62,11 @@ module _ {C W R : Type 0} (m : Meaning C W R) where
         next-far (more d ts) (k, ks) r e =
             let (a, b, c) = unfalling-parts m (points t) (points d ++ points_all ts) r in
             let far : Past m l (mark d k).at = sym (ap (starts_from m l) (mark-is d k)) ∙ e in
-            All-weaker (λ p. AllByRecursion (λ q. Upto m p.key.at q.key.at) (points d ++ points_all ts)) (λ p. inside m l u p.key.at ≡ false)
+            each-weaker (λ p. AllByRecursion (λ q. Upto m p.key.at q.key.at) (points d ++ points_all ts)) (λ p. inside m l u p.key.at ≡ false)
             (λ p a. and_left _ _ (past-before m first l p.key.at (mark d k).at (mark-at (λ (j : Key C). Upto m p.key.at j.at) d k (all-parts (λ q. Upto m p.key.at q.key.at) (points d) (points_all ts) a).0) far)) (points t) c
 
         go : (starts_by m u (key_of t) ≡ false) ⊎ (reaches_right m l ts ≡ false) → AllByRecursion (λ p. inside m l u p.key.at ≡ false) (points t)
         go (inl e) =
             let far : Past m (mark t k).at u = sym (ap (starts_by m u) (mark-is t k)) ∙ e in
-            All-weaker (λ p. Upto m (mark t k).at p.key.at) (λ p. inside m l u p.key.at ≡ false) (λ p a. and_right _ _ (past_after m first (mark t k).at p.key.at u a far)) (points t) (mark-ahead m first t k (unfalling-parts m (points t) (points_all ts) r).0)
+            each-weaker (λ p. Upto m (mark t k).at p.key.at) (λ p. inside m l u p.key.at ≡ false) (λ p a. and_right _ _ (past_after m first (mark t k).at p.key.at u a far)) (points t) (mark-ahead m first t k (unfalling-parts m (points t) (points_all ts) r).0)
         go (inr e) = next-far ts ks r e

@@ -3,9 +3,8 @@ use Rattle.std.proofs.Common.{◌≡◌, ℕ, Bool, true, false, cond, ◌&&◌,
 use Rattle.std.proofs.lemmas.Grind.{flat_map-append}
 use Rattle.std.specs.List.Sorted.{IsPermutation}
 use Rattle.std.specs.Option.{option_to_list}
-use Rattle.std.specs.List.{ContainsAt, flat_map, AllByRecursion}
+use Rattle.std.specs.List.{Contains, flat_map, AllByRecursion}
 use Rattle.std.proofs.lemmas.List.Elements.{filter-append}
-use Rattle.std.proofs.ByRecursion.{All-weaker, all-has}
 use Rattle.std.proofs.lemmas.Bool.{true≢false, and_left, and_right}
 use Rattle.std.proofs.lemmas.Float.{T_from_true}
 use Rattle.kinds.specs.Meaning.{Meaning, First, Second}
@@ -14,6 +13,7 @@ use Rattle.plain.specs.Points.{rank_order, FitPoint}
 use Rattle.plain.specs.Windows.{inside, reaches, matches}
 use Rattle.trees.specs.Tree.{Tree, Forest, gone, leaf, fork, none, more, points, points_all}
 use Rattle.trees.specs.Rules.{kept, kept_all, OnPath, OnPathAll, Rules}
+use Rattle.trees.proofs.Each.{each-weaker, each-has}
 use Rattle.walked.specs.Walk.{kept_at, opens, leads_on, walk_all, visits, ranged}
 use Rattle.walked.proofs.Parts.{by-test, all-parts, kept-none}
 use Rattle.walked.proofs.Shuffles.{kept-shuffled}
@@ -49,11 +49,11 @@ module _ {C W R : Type 0} (m : Meaning C W R) (first : First m) (second : Second
     range-tree (fork p k None ts) r (e, h) on (e', pl) f = sym (ap (matches m l u w) e')
     range-tree (fork p k (Some q) ts) r (e, h) (own, on) ((i, a), pl) f =
         let ks = kept_all ts in
-        let below = All-weaker (ContainsAt (points_all ts)) (FitPoint m) (λ p i. all-has (FitPoint m) (points_all ts) p f i) ks (homed_all ts on) in
+        let below = each-weaker (Contains (points_all ts)) (FitPoint m) (λ p i. each-has (FitPoint m) (points_all ts) p f i) ks (homed_all ts on) in
         ap (λ z. cond (hit q) (q ∷ z) z)
         (by-test (reaches m q.weight w)
         (λ s. rw s (range-forest ts r h on pl f))
-        (λ s. rw s (sym (kept-none hit ks (weak-below q (all-has (FitPoint m) (points_all ts) q f i) s ks a below)))))
+        (λ s. rw s (sym (kept-none hit ks (weak-below q (each-has (FitPoint m) (points_all ts) q f i) s ks a below)))))
 
     range-forest : (ts : Forest C W) → Unfalling m (points_all ts) → MarkedAll ts → OnPathAll ts → PlacedAll m ts → AllByRecursion (FitPoint m) (points_all ts) → matches m l u w (flat_map kept_at (walk_all m (leads_on m w) l u ts)) ≡ matches m l u w (kept_all ts)
     range-forest none r h on pl f = refl
@@ -69,7 +69,7 @@ module _ {C W R : Type 0} (m : Meaning C W R) (first : First m) (second : Second
         (λ o. rw o (cc (flat_map-append kept_at v vs, filter-append hit (flat_map kept_at v) (flat_map kept_at vs), first_part, rest, both)))
         (λ o.
         let out = shut_out m first l u t ts o h hs r in
-        let empty = All-weaker (ContainsAt (points t)) (λ p. hit p ≡ false) (λ p i. and_left _ _ (all-has (λ p. inside m l u p.key.at ≡ false) (points t) p out i)) (kept t) (homed t on) in
+        let empty = each-weaker (Contains (points t)) (λ p. hit p ≡ false) (λ p i. and_left _ _ (each-has (λ p. inside m l u p.key.at ≡ false) (points t) p out i)) (kept t) (homed t on) in
         rw o (rest ∙ ap (λ z. z ++ matches m l u w (kept_all ts)) (sym (kept-none hit (kept t) empty)) ∙ sym both))
 
   module _ (a b h : ℕ) (t : Tree C W) (rules : Rules m a b h t) where

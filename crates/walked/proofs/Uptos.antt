@@ -2,13 +2,13 @@
 use Rattle.std.proofs.Common.{◌≡◌, Bool, true, false, not, T, ◌⊎◌, List, [], ◌∷◌, ◌++◌, Ordering, Less, Equal, Greater, sym, refl, ap, ◌∙◌, inl, inr}
 use Rattle.std.specs.Ordering.{is_le, is_lt, is_gt, ordering_then}
 use Rattle.std.specs.List.{AllByRecursion}
-use Rattle.std.proofs.ByRecursion.{All-weaker}
 use Rattle.std.proofs.lemmas.Bool.{true≢false}
 use Rattle.kinds.specs.Meaning.{Meaning, First}
 use Rattle.plain.specs.declared.point.Point.{Point}
 use Rattle.plain.specs.Points.{Before}
 use Rattle.plain.specs.Set.{Rising}
 use Rattle.plain.specs.Windows.{later}
+use Rattle.trees.proofs.Each.{each-weaker}
 use Rattle.walked.proofs.Parts.{all-parts}
 
 -- ---- answers
@@ -44,7 +44,7 @@ module _ {C W R : Type 0} (m : Meaning C W R) where
   pub unfalling : (ps : List (Point C W)) → Rising m ps → Unfalling ps
   unfalling [] r = tt
   unfalling (p ∷ ps) (h, r) =
-      (All-weaker (λ q. Before m p.key q.key) (λ q. Upto p.key.at q.key.at) (λ q e. le-upto (m.order p.key.at q.key.at) (less-le (m.order p.key.at q.key.at) _ e)) ps h, unfalling ps r)
+      (each-weaker (λ q. Before m p.key q.key) (λ q. Upto p.key.at q.key.at) (λ q e. le-upto (m.order p.key.at q.key.at) (less-le (m.order p.key.at q.key.at) _ e)) ps h, unfalling ps r)
 
   pub unfalling-parts : (xs ys : List (Point C W)) → Unfalling (xs ++ ys) → Unfalling xs × Unfalling ys × AllByRecursion (λ x. AllByRecursion (λ y. Upto x.key.at y.key.at) ys) xs
   unfalling-parts [] ys r = (tt, r, tt)

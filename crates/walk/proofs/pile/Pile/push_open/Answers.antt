@@ -1,6 +1,6 @@
 use Rattle.std.proofs.Common.{◌≡◌, ◌+◌, ◌-◌, ◌<◌, ◌&&◌, List, [], ◌∷◌, ◌++◌, length, get_or, drop, Some, sym, refl, ap, ◌∙◌, subst, arith}
 use Rattle.std.specs.List.{slice_get}
-use Rattle.std.proofs.ByRecursion.{All-get_or}
+use Rattle.trees.proofs.Each.{each-at}
 use Rattle.table.specs.Kids.{kids_of}
 use Rattle.walk.specs.Entries.{entry, reaches_at, open_entries}
 use Rattle.walk.specs.Piles.{pile_of}
@@ -21,7 +21,7 @@ loop-i-init g c =
 pub read-at-requires : goal.read-at-requires
 read-at-requires g c =
     let lt : (c.loop-i.i - 1) < length (kids_of c.args.children) = omega (arith, c.loop-i.invariant.0, c.loop-i-test.true) in
-    subst (λ q. q < length c.args.nodes.now) (sym c.at-root.ensures) (All-get_or (λ q. q < length c.args.nodes.now) (kids_of c.args.children) (c.loop-i.i - 1) 0 lt c.requires.within)
+    subst (λ q. q < length c.args.nodes.now) (sym c.at-root.ensures) (each-at (λ q. q < length c.args.nodes.now) (kids_of c.args.children) (c.loop-i.i - 1) 0 lt c.requires.within)
 
 pub push-requires : goal.push-requires
 push-requires g c =
