@@ -8,7 +8,7 @@ use kinds::Kind;
 use table::children::Children;
 use table::node::{Node, Stored, write};
 
-// A leaf for a point, which keeps it. Two calls, under a promise of their own that `lay_leaf` stands on.
+// A leaf for a point, which keeps it. Three calls, under a promise of their own that `lay_leaf` stands on.
 fn leaf_for<C: Copy, R: Copy>(x: Stored<C, R>) -> Node<C, R>
     ensures own { result.own ≡ x }
     ensures kept { result.kept ≡ Some x }

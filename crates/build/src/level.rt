@@ -1,5 +1,5 @@
 // One level of a tree: parents over all trees of one height, from the left, in a table that is lent:
-// how large it is, is asked.
+// how large it is, is asked, and that the trees in it are sound.
 ghost use Rattle.std.specs.Prelude.{◌≡◌, suc, ◌+◌, ◌*◌, ◌<◌, ◌≤◌, length};
 ghost use Rattle.refusals.specs.Limits.{most_nodes};
 ghost use Rattle.plain.specs.declared.point.Key.{Key};

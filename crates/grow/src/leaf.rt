@@ -1,4 +1,5 @@
-// A new leaf beside another.
+// A new leaf beside another. `Free` is passed beside the table: a function
+// of the tree takes the caller's table as a slice.
 ghost use Rattle.std.specs.Prelude.{Some};
 ghost use Rattle.table.specs.Reading.{point_in};
 ghost use Rattle.grow.specs.Grown.{Ready, Inserted};

@@ -1,4 +1,5 @@
-// A full node and one child more: two nodes.
+// A full node and one child more: two nodes. `Sounds` is a premise: a fact about the table lent
+// beside the trees.
 ghost use Rattle.std.specs.Prelude.{◌≡◌, ◌<◌, [], ◌∷◌, length, take, drop};
 ghost use Rattle.trees.specs.Tree.{grow};
 ghost use Rattle.table.specs.Kids.{kids_of};

@@ -1,4 +1,5 @@
-// A point more in the whole tree, in a table that is lent: how large it is, is asked.
+// A point more in the whole tree, in a table that is lent: how large it is, is asked. `Free` is
+// passed beside it: a function of the tree takes the caller's table as a slice.
 ghost use Rattle.std.specs.Prelude.{◌≡◌, ℕ, suc, ◌*◌, ◌<◌, ◌≤◌, false, length};
 ghost use Rattle.std.specs.List.{AllByRecursion};
 ghost use Rattle.plain.specs.Points.{FitPoint};

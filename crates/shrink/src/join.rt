@@ -1,5 +1,7 @@
 // Two neighbours of which one has a child too few: they become one node, or one child changes
-// sides.
+// sides. `Free` is passed beside the table: a function of the tree takes the caller's table as a
+// slice. What is known of the trees in it is a premise, and that there is a child, since a leaf has
+// none. Several trees of one height are their places and that height: each has a root of its own.
 ghost use Rattle.std.specs.Prelude.{◌≡◌, ◌+◌, ◌-◌, ◌<◌, ◌≤◌, true, false, [], ◌∷◌, ◌++◌, length};
 ghost use Rattle.trees.specs.Tree.{◌⊕◌, grow, count, children_of};
 ghost use Rattle.table.specs.Kids.{kids_of};

@@ -1,5 +1,6 @@
 // A leaf is taken away, and on the way up each node that has too few children is joined with a
-// neighbour.
+// neighbour. `Free` is passed beside the table: a function of the tree takes the caller's table as a
+// slice.
 ghost use Rattle.std.specs.Prelude.{◌≡◌, ◌+◌, ◌-◌, ◌<◌, ◌++◌, length, take, drop, if◌then◌else◌};
 ghost use Rattle.table.specs.Kids.{kids_of};
 ghost use Rattle.shrink.specs.Removes.{Mendable, Mended, Ready, Removed};

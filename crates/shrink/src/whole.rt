@@ -1,4 +1,5 @@
-// A key is removed from the whole tree.
+// A key is removed from the whole tree. `Free` is passed beside the table: a
+// function of the tree takes the caller's table as a slice.
 ghost use Rattle.std.specs.Prelude.{◌≡◌, ◌<◌, true};
 ghost use Rattle.plain.specs.Set.{stands};
 ghost use Rattle.plain.specs.Set.{remove as removed_from};

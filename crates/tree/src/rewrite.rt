@@ -1,4 +1,4 @@
-// Nodes over other children.
+// Nodes over other children. That there is a child, in the table, is asked: a leaf has none.
 ghost use Rattle.std.specs.Prelude.{◌<◌, length, slice_index};
 ghost use Rattle.table.specs.Kids.{kids_of};
 ghost use Rattle.tree.specs.Rewritten.{Rewritten};

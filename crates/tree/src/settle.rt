@@ -1,6 +1,6 @@
 // Nodes laid anew over trees that stand, and points that find their place in them. Several trees of
 // one height are their places and that height: each has a root of its own. `Sounds` is a premise, as
-// it is a fact about the table lent beside them.
+// it is a fact about the table lent beside them, and that there is a tree: a leaf has no children.
 ghost use Rattle.std.specs.Prelude.{◌≡◌, ◌-◌, ◌<◌, length, Some};
 ghost use Rattle.trees.specs.Tree.{grow, uses_all};
 ghost use Rattle.table.specs.Kids.{kids_of};
