@@ -44,9 +44,6 @@ module _ {C W R : Type 0} {m : Meaning C W R} {a : List (Node C R)} {H p q : ℕ
   pub q-within : q < length a
   q-within = inside-lt (length a) q (omega (arith, pre.each q, hit-here q))
 
-  pub p-off : uses_all lefts p ≡ 0
-  p-off = omega (arith, one p, hit-here p)
-
   -- the first node has been laid
   module _ {b : List (Node C R)} (len : length b ≡ length a) (laid : Laid m a b H p ls) where
     pub rights-same : under m b H rs ≡ rights

@@ -20,7 +20,6 @@ use Rattle.table.specs.declared.header.Header.{Header}
 use Rattle.table.specs.declared.subtree.Subtree.{Subtree}
 use Rattle.table.specs.Spares.{spares}
 use Rattle.table.specs.Reading.{tree_at, inside}
-use Rattle.table.proofs.Steps.{inside_one}
 use Rattle.tree.specs.Standing.{forest_of, points_of, Standing, Ruled}
 use Rattle.tree.proofs.Spared.{all-inside}
 use Rattle.grow.specs.Grown.{Ready, most, half}
@@ -44,9 +43,6 @@ module _ {C W R : Type 0} {m : Meaning C W R} {a : List (Node C R)} {hd : Header
 
   pub spares-in : AllByRecursion (λ q. q < length a) qs
   spares-in = all-inside (length a) qs (λ q. omega (arith, s.places q))
-
-  pub spares-once : (q : ℕ) → occurs q qs ≤ 1
-  spares-once q = omega (arith, s.places q, inside_one (length a) q)
 
   -- ---- no point yet
   pub empty : hd.count ≡ 0 → f ≡ none

@@ -1,4 +1,7 @@
 // Runs of changes: keys that rise, that fall or that meet in the middle, and keys by chance.
+ghost use Rattle.std.specs.Prelude.{◌≡◌, ◌+◌, ◌%◌, None, []};
+ghost use Rattle.table.specs.Kids.{kids_of};
+
 use crate::checks::check;
 use crate::trial::{Act, Points, Pt, Trial};
 use build::build::build;
@@ -35,7 +38,9 @@ fn key_number(order: Order, i: u32) -> u64 {
 }
 
 // The i-th point of a run, with a weight of few bits so that many tie.
-pub fn point_of(order: Order, i: u32) -> Pt {
+pub fn point_of(order: Order, i: u32) -> Pt
+    ensures { (result.number ≡ i) × (result.weight ≡ 0x3F80_0000 + i % 5) }
+{
     Stored {
         at: key_number(order, i),
         number: i,
@@ -184,7 +189,9 @@ fn tiny<K: Kind<Coordinate = u64, Recorded = u32>>(
 }
 
 // A node that says nothing.
-pub fn blank() -> Node<u64, u32> {
+pub fn blank() -> Node<u64, u32>
+    ensures { (result.kept ≡ None) × (kids_of result.children ≡ []) }
+{
     let own = Stored {
         at: 0,
         number: 0,
