@@ -45,13 +45,13 @@ module _ {C W R : Type 0} (m : Meaning C W R) (a b : List (Node C R)) (n first l
       go (inl z) = omega (arith, on.nodes, ap (λ j. size_all (trees_in m b h j first)) z)
       go (inr z) = omega (arith, on.room)
 
-  root-points : points_of m b hd ≡ laid_at m a n
+  pub root-points : points_of m b hd ≡ laid_at m a n
   root-points = ap points_all root-forest ∙ on.same
 
-  root-counted : hd.count ≡ n
+  pub root-counted : hd.count ≡ n
   root-counted = ap (λ k. k.count) is
 
-  root-standing : length b ≤ most_nodes → Standing m b hd
+  pub root-standing : length b ≤ most_nodes → Standing m b hd
   root-standing small =
       let fresh = first + left in
       let all : fresh + (length b - fresh) ≡ length b = omega (arith, within) in
@@ -67,7 +67,7 @@ module _ {C W R : Type 0} (m : Meaning C W R) (a b : List (Node C R)) (n first l
   ended : (k : Key C) → (ts, h, first + left) ≡ tree_over m a n k
   ended k = sym (levels-done m left h (first + left) k ts (omega (arith, count-trees m b h left first))) ∙ on.trees k
 
-  root-tree : (k : Key C) → tree_over m a n k ≡ (forest_of m b hd, hd.top.height, hd.free.fresh)
+  pub root-tree : (k : Key C) → tree_over m a n k ≡ (forest_of m b hd, hd.top.height, hd.free.fresh)
   root-tree k = sym (ended k) ∙ ap (λ f. (f, h, first + left)) (sym root-forest) ∙ ap (λ k. (forest_of m b hd, k.top.height, k.free.fresh)) (sym is)
 
   module _ (orders : First m) (ranks : Second m) (good : Good m (laid_at m a n)) where
@@ -97,7 +97,7 @@ module _ {C W R : Type 0} (m : Meaning C W R) (a b : List (Node C R)) (n first l
               full = w.full;
             }
 
-    root-ruled : Ruled m b hd
+    pub root-ruled : Ruled m b hd
     root-ruled = subst (λ k. Whole m k.top.height (forest_of m b hd)) (sym is) (subst (Whole m h) (sym root-forest) whole)
 
   -- all that is promised of it

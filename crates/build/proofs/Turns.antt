@@ -98,13 +98,13 @@ module _ {C W R : Type 0} (m : Meaning C W R) where
     in_parts : (q : ℕ) → uses_all ts q ≡ uses_all fs q + uses_all bs q
     in_parts q = ap (λ us. uses_all us q) (sym parted) ∙ uses-⊕ fs bs q
 
-    group-within : at < length b
+    pub group-within : at < length b
     group-within = omega (arith, on.room, group-size.0, group-size.2)
 
-    group-apart : uses_all fs at ≡ 0
+    pub group-apart : uses_all fs at ≡ 0
     group-apart = omega (arith, on.apart at, in_parts at, not-inside at at (omega arith))
 
-    group-sounds : Sounds (length b) h fs
+    pub group-sounds : Sounds (length b) h fs
     group-sounds = record {
       level = (level-parts fs bs h (subst (λ us. LevelAll us h) (sym parted) on.level)).0;
       degrees = (degrees-parts fs bs 1 4 (subst (λ us. DegreesAll us 1 4) (sym parted) on.degrees)).0;

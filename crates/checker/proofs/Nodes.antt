@@ -97,7 +97,7 @@ module _ {C W R : Type 0} (m : Meaning C W R) (ns : List (Node C R)) where
           pass-more t (trees-fork pos) refl (subst (Passes m t next) (sym (up h pos)) (here, below))
 
   -- the first of some trees has the key
-  heads-at : (h : ℕ) (k : Key C) (ps : List ℕ) → next_at ns ps None ≡ Some k → Heads k (grow (tree_at m ns h) ps)
+  pub heads-at : (h : ℕ) (k : Key C) (ps : List ℕ) → next_at ns ps None ≡ Some k → Heads k (grow (tree_at m ns h) ps)
   heads-at h k [] e = cc
   heads-at h k (p ∷ ps) e = key-tree m ns h p ∙ e
 

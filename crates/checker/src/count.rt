@@ -16,6 +16,9 @@ pub struct Counts {
     pub kept: u16,
 }
 
+// More points than a table has room for.
+const MANY: u16 = 32768;
+
 // What one node adds: its own point, at a leaf, and the point that it keeps.
 fn own_counts<C: Copy, R: Copy>(n: Node<C, R>, points: u16) -> Counts
     ensures points { result.points ≡ points }
@@ -27,13 +30,17 @@ fn own_counts<C: Copy, R: Copy>(n: Node<C, R>, points: u16) -> Counts
     }
 }
 
-// Two counts together, unless a sum is too large for any table.
+// Two counts together, unless one is too large for any table.
 fn added(a: Counts, b: Counts) -> Option<Counts>
     ensures { Added a b result }
 {
-    let points = a.points.checked_add(b.points)?;
-    let kept = a.kept.checked_add(b.kept)?;
-    Some(Counts { points, kept })
+    if a.points.max(b.points) >= MANY || a.kept.max(b.kept) >= MANY {
+        return None;
+    }
+    Some(Counts {
+        points: a.points + b.points,
+        kept: a.kept + b.kept,
+    })
 }
 
 // The counts of some trees of one height, if all their places are in the table.

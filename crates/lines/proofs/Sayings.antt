@@ -73,7 +73,7 @@ said line bs a e k h =
     (x, subst (Fields k) y h.2)
 
 module _ (s : List ℕ) (two : 2 ≤ length s) (gap : get_or s 1 0 ≡ 32) where
-  begins : (a : ℕ) → get_or s 0 0 ≡ a → s ≡ a ∷ 32 ∷ after s
+  pub begins : (a : ℕ) → get_or s 0 0 ≡ a → s ≡ a ∷ 32 ∷ after s
   begins a first = starts s a 32 two first gap
 
   fields : (a : ℕ) → get_or s 0 0 ≡ a → (k : Command) → Says s k → (letter k ≡ a) × Fields k (after s)

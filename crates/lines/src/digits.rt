@@ -24,6 +24,7 @@ pub fn decimal(s: &[u8], top: u64) -> Option<u64>
 }
 
 // The number that a pattern writes.
+#[inline(always)]
 pub fn pattern(s: &[u8]) -> Option<u32>
     ensures { MatchOption result ((n : ℕ) → Pattern n s.now → ⊥) (λ n. Pattern n s.now) }
 {

@@ -16,7 +16,9 @@ const MOST_PLACES: u64 = 64;
 // The casts below lose nothing, as the check proves from these bounds, which the grammar names;
 // `try_from` would hide the bound in a type.
 
-// An epoch, a number and a pattern.
+// An epoch, a number and a pattern. In line, as are its parts: on a short line their calls would
+// cost as much as a field.
+#[inline(always)]
 pub fn point(s: &[u8]) -> Option<(u64, u32, u32)>
     ensures { MatchOption result ((e n p : ℕ) → Point e n p s.now → ⊥) (λ t. Point t.0 t.1 t.2 s.now) }
 {
@@ -75,6 +77,7 @@ fn pair(s: &[u8], top: u64, next: u64) -> Option<(u64, u64)>
 }
 
 // The same before a second blank, and what follows it.
+#[inline]
 fn heads(s: &[u8], top: u64, next: u64) -> Option<(u64, u64, &[u8])>
     ensures { MatchOption result ((a b : ℕ) (y : List ℕ) → Then top a (Head next b y) s.now → ⊥) (λ t. Then top t.0 (Head next t.1 t.2.now) s.now) }
 {
@@ -84,6 +87,7 @@ fn heads(s: &[u8], top: u64, next: u64) -> Option<(u64, u64, &[u8])>
 }
 
 // A decimal field of at most `top` before the first blank, and what follows that blank.
+#[inline]
 fn head(s: &[u8], top: u64) -> Option<(u64, &[u8])>
     ensures { MatchOption result ((n : ℕ) (y : List ℕ) → Head top n y s.now → ⊥) (λ p. Head top p.0 p.1.now s.now) }
 {

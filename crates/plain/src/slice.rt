@@ -1,5 +1,7 @@
 // The plain set read from a slice of points, one after the other: the definitions as they run.
 ghost use Rattle.std.specs.Prelude.{◌≡◌, ◌&&◌, ◌++◌, length, drop};
+ghost use Rattle.std.specs.Float.Ieee.{add};
+ghost use Rattle.std.specs.Float.{binary32};
 ghost use Rattle.plain.specs.Set.{weight_at};
 ghost use Rattle.plain.specs.Windows.{later, inside, reaches, window, matches, firsts, total};
 
@@ -52,6 +54,13 @@ pub fn find<K: Kind>(
         .map(|p| p.weight)
 }
 
+// The sum so far and one number more.
+fn plus<K: SummedKind>(sum: f32, weight: K::Weight) -> f32
+    ensures { result ≡ add binary32 sum (K.number weight) }
+{
+    sum + K::number_of(weight)
+}
+
 // The sum of the points in a window, in their order, and how many they are.
 pub fn sum_window<K: SummedKind>(
     points: &[Point<K::Coordinate, K::Weight>],
@@ -59,12 +68,17 @@ pub fn sum_window<K: SummedKind>(
 ) -> (f32, usize)
     ensures { result ≡ (total K.number (window K.Kind.meaning bounds.lower bounds.upper points.now), length (window K.Kind.meaning bounds.lower bounds.upper points.now)) }
 {
-    let inside = |p: &&Point<K::Coordinate, K::Weight>| is_inside::<K>(bounds, p.key.at);
-    let sum = points
-        .iter()
-        .filter(inside)
-        .fold(0.0, |sum, p| sum + K::number_of(p.weight));
-    (sum, points.iter().filter(inside).count())
+    // A loop and no chain: a fold over the points in the window, of the sum and the count together,
+    // takes half as much time again.
+    let mut sum = 0.0;
+    let mut count = 0;
+    for p in points {
+        if is_inside::<K>(bounds, p.key.at) {
+            sum = plus::<K>(sum, p.weight);
+            count += 1;
+        }
+    }
+    (sum, count)
 }
 
 // How many points match a window with a threshold.

@@ -18,7 +18,7 @@ reply-once l ps a b qs rs (unread never) (unread still) = (refl, refl)
 reply-same : (l m : List ℕ) (ps : Points) (a b : List ℕ) (qs rs : Points) → l ≡ m → Reply l ps a qs → Reply m ps b rs → (a ≡ b) × (qs ≡ rs)
 reply-same l m ps a b qs rs e h j = reply-once m ps a b qs rs (subst (λ x. Reply x ps a qs) e h) j
 
-lines-once : (ps : Points) (s t a b : List ℕ) → Lines ps s a → Lines ps t b → s ≡ t → a ≡ b
+pub lines-once : (ps : Points) (s t a b : List ℕ) → Lines ps s a → Lines ps t b → s ≡ t → a ≡ b
 lines-once ps s t a b (none _) (none _) e = refl
 lines-once ps s t a b (none _) (line _ qs l rest o os one r more) e = absurd (omega (arith, ap length e, length-append l (10 ∷ rest)))
 lines-once ps s t a b (none _) (last _ qs l o one some r) e = absurd (omega (arith, ap length e))

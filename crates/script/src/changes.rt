@@ -15,7 +15,7 @@ impl Session {
     {
         let weight = Small::recall(pattern);
         match self.set.insert(Point { key, weight }) {
-            Ok(()) => writeln!(self.out, "ok"),
+            Ok(()) => self.out.push_str("ok\n"),
             Err(Failure::Refused(refusal)) => self.refuse(refusal),
             Err(Failure::Memory(failed)) => Err(failed),
         }
@@ -25,7 +25,7 @@ impl Session {
         ensures { Obeyed (Command.Change key.at key.number pattern) self.old result self.new }
     {
         match self.set.change(key, Small::recall(pattern)) {
-            Ok(()) => writeln!(self.out, "ok"),
+            Ok(()) => self.out.push_str("ok\n"),
             Err(refusal) => self.refuse(refusal),
         }
     }
@@ -34,7 +34,7 @@ impl Session {
         ensures { Obeyed (Command.Delete key.at key.number) self.old result self.new }
     {
         match self.set.delete(key) {
-            Ok(()) => writeln!(self.out, "ok"),
+            Ok(()) => self.out.push_str("ok\n"),
             Err(refusal) => self.refuse(refusal),
         }
     }

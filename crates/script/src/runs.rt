@@ -23,19 +23,16 @@ pub fn report(heap: Global, script: &[u8]) -> Result<Vec<u8>, AllocError>
 }
 
 impl Session {
-    #[tactic(auto, using(crate::proofs::Running::line_run))]
     fn run(&mut self, script: &[u8]) -> Result<(), AllocError>
         ensures { OnOk result ((os : List ℕ) × Lines self.old.set script.now os × (string_bytes self.new.out ≡ string_bytes self.old.out ++ os)) }
     {
         // Not `split_inclusive`: the newline would have to be cut off each line but the last, and its
         // contract speaks of runs of the closure.
         let mut rest = script;
-        while let Some((line, others)) = split_once(rest, b'\n') {
+        while !rest.is_empty() {
+            let (line, others) = split_once(rest, b'\n').unwrap_or((rest, &[]));
             self.reply(line)?;
             rest = others;
-        }
-        if !rest.is_empty() {
-            self.reply(rest)?;
         }
         Ok(())
     }

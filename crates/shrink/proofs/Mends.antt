@@ -104,7 +104,7 @@ module _ {C W R : Type 0} {m : Meaning C W R} {a : List (Node C R)} {f : Free} {
       counted : (q : ℕ) → uses_all ts q ≡ uses_all (front j ts) q + (uses (branch_at l) q + (uses (branch_at r) q + uses_all (back (j + 2) ts) q))
       counted q = ap (λ us. uses_all us q) (sym split) ∙ uses-⊕ (front j ts) (more (branch_at l) (more (branch_at r) (back (j + 2) ts))) q
 
-      neighbours : Neighbours m a h l r
+      pub neighbours : Neighbours m a h l r
       neighbours =
           let v = (level-parts (front j ts) (more (branch_at l) (more (branch_at r) (back (j + 2) ts))) h (subst (λ us. LevelAll us h) (sym split) s.sounds.level)).1 in
           let d = (degrees-parts (front j ts) (more (branch_at l) (more (branch_at r) (back (j + 2) ts))) 1 4 (subst (λ us. DegreesAll us 1 4) (sym split) s.sounds.degrees)).1 in
@@ -113,7 +113,7 @@ module _ {C W R : Type 0} {m : Meaning C W R} {a : List (Node C R)} {f : Free} {
             sounds = record { level = (v.0, (v.1.0, tt)); degrees = (d.0, (d.1.0, tt)); apart = λ q. omega (arith, counted q, s.sounds.apart q) };
           }
 
-      is-poor : Poor m a h l r (eqb i 0)
+      pub is-poor : Poor m a h l r (eqb i 0)
       is-poor = record {
         first = λ e. let z : i ≡ j = omega (arith, eqb-true i 0 e) in ap (λ u. count (children_of u)) (sym tree-l ∙ ap (λ x. nth_tree x ts) (sym z)) ∙ one-child;
         last = λ e. let z : i ≡ suc j = later e in ap (λ u. count (children_of u)) (sym tree-r ∙ ap (λ x. nth_tree x ts) (sym z)) ∙ one-child;

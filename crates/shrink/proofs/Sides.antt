@@ -40,7 +40,7 @@ module _ {C W R : Type 0} {m : Meaning C W R} {a : List (Node C R)} {H l r : ℕ
   seat = reseated m a H l r
 
   -- how many the left one gets
-  abbrev portion : Bool → ℕ
+  abbrev pub portion : Bool → ℕ
   portion left = cond left (suc (length ls)) (length ls - 1)
 
   counted : count all ≡ length ls + length rs

@@ -1,10 +1,10 @@
 -- A binary search by key order over points that rise.
-use Rattle.std.proofs.Common.{◌≡◌, ℕ, zero, suc, ◌<◌, ◌≤◌, true, false, List, [], ◌∷◌, ◌++◌, length, get_or, take, drop, set, is_some, None, Ok, Err, Result, MatchResult, Ordering, Less, Equal, Greater, sym, refl, ap, ◌∙◌, subst, ⊎_elim, arith, rules}
+use Rattle.std.proofs.Common.{◌≡◌, ℕ, zero, suc, ◌-◌, ◌<◌, ◌≤◌, true, false, List, [], ◌∷◌, ◌++◌, length, get_or, get_or-take, length-take-le, take, drop, set, is_some, None, Ok, Err, Result, MatchResult, Ordering, Less, Equal, Greater, sym, refl, ap, ◌∙◌, subst, ⊎_elim, arith, rules}
 use lib.Ieee.{Float}
 use Rattle.std.specs.Ordering.{is_lt, is_eq, ordering_index, ordering_reverse}
 use Rattle.std.specs.List.{AllWithin, insert, remove as removed}
 use Rattle.std.specs.List.Sorted.{IsNonDecreasingBy, IsPartitionPoint, IsSearchInRange, IsBinarySearchResult}
-use Rattle.std.proofs.lemmas.Bool.{cond-true, cond-false, cases_lt}
+use Rattle.std.proofs.lemmas.Bool.{cond-true, cond-false, cases_lt, true≢false}
 use Rattle.std.proofs.Math.Nat.{eq-or-lt_of_le}
 use Rattle.std.proofs.lemmas.List.Elements.{All-from_recursion, All-get_or}
 use Rattle.kinds.specs.Kinds.{small}
@@ -98,6 +98,50 @@ found k ps h (Ok i) lt e =
     let is : (d : P) → (get_or ps i d).key ≡ k = λ d. tie small law _ k (e d) in
     stands-at k ps i lt is (λ j d x. apart-back small law _ k (subst (Before small (get_or ps j d).key) (is d) (rising-at ps j i d h x lt)))
 found k ps h (Err i) le point = goes-at k ps i le (point (rises k ps h))
+
+-- ---- a search of the first points
+top : (o : Ordering) → 2 ≤ ordering_index o → o ≡ Greater
+top Less h = absurd (omega arith)
+top Equal h = absurd (omega arith)
+top Greater h = refl
+
+-- the first n points are all, or the last of them is no earlier than the key
+abbrev pub Reaches : (k : Key ℕ) (ps : List P) (n : ℕ) → Type 0
+Reaches k ps n = n < length ps → (0 < n) × ((d : P) → is_lt (key_order small (get_or ps (n - 1) d).key k) ≡ false)
+
+module _ (k : Key ℕ) (ps : List P) (n : ℕ) (h : Rising small ps) (le : n ≤ length ps) (reach : Reaches k ps n) where
+  abbrev ord : P → Ordering
+  ord q = key_order small q.key k
+
+  -- the order, of the first n
+  rises-near : IsNonDecreasingBy (λ q. ordering_index (ord q)) (take n ps)
+  rises-near i j d ij len =
+      let lt : j < n = omega (arith, length-take-le n ps le) in
+      omega (arith, ap (λ q. ordering_index (ord q)) (get_or-take n ps i d (omega arith)), ap (λ q. ordering_index (ord q)) (get_or-take n ps j d lt), rises k ps h i j d ij (omega arith))
+
+  -- past them each key is after k, if k does not stand
+  beyond : (i : ℕ) → i ≤ n → IsPartitionPoint (λ q. ord q ≡ Less) (λ q. ord q ≡ Greater) (take n ps) i → (j : ℕ) (d : P) → n ≤ j → j < length ps → ord (get_or ps j d) ≡ Greater
+  beyond i at part j d nj len =
+      let r = reach (omega arith) in
+      let last : n - 1 < n = omega (arith, r.0) in
+      let here = get_or-take n ps (n - 1) d last in
+      let e : ord (get_or ps (n - 1) d) ≡ Greater =
+      ⊎_elim
+      (λ x. absurd (true≢false (ap is_lt (sym (sym (ap ord here) ∙ part.0 (n - 1) d (omega arith) x)) ∙ r.1 d)))
+      (λ x. sym (ap ord here) ∙ part.1 (n - 1) d x (omega (arith, length-take-le n ps le)))
+      (cases_lt (n - 1) i) in
+      top _ (omega (arith, ap ordering_index e, rises k ps h (n - 1) j d (omega arith) len))
+
+  -- so what a search of them says, one of all says
+  pub found_near : (r : Result ℕ ℕ) → IsSearchInRange r (length (take n ps)) → IsBinarySearchResult (λ q. key_order small q.key k) (take n ps) r → MatchResult r (StandsAt k ps) (GoesAt k ps)
+  found_near (Ok i) lt e = found k ps h (Ok i) (omega (arith, length-take-le n ps le)) (λ d. sym (ap ord (get_or-take n ps i d (omega (arith, length-take-le n ps le)))) ∙ e d)
+  found_near (Err i) at point =
+      let in-near : i ≤ n = omega (arith, length-take-le n ps le) in
+      let part = point rises-near in
+      goes-at k ps i (omega arith) (
+        λ j d x y. sym (ap ord (get_or-take n ps j d (omega arith))) ∙ part.0 j d x y,
+        λ j d x y. ⊎_elim (λ lt. sym (ap ord (get_or-take n ps j d lt)) ∙ part.1 j d x (omega (arith, length-take-le n ps le))) (λ nj. beyond i in-near part j d nj y) (cases_lt j n),
+      )
 
 -- ---- what a change leaves rises
 module _ (ps now : List P) (h : Rising small ps) where

@@ -11,5 +11,12 @@ pub(crate) fn place(points: &[Point<u64, f32>], key: Key<u64>) -> Result<usize, 
     requires { Rising small points.now }
     ensures { MatchResult result (StandsAt key points.now) (GoesAt key points.now) }
 {
-    points.binary_search_by(|p| key_order::<Small>(p.key, key))
+    // The bound grows from the front, so that an early key takes few comparisons; by four, since each
+    // step is one more for a late key.
+    let mut bound = 1;
+    while bound < points.len() && key_order::<Small>(points[bound - 1].key, key).is_lt() {
+        bound *= 4;
+    }
+    let near = &points[..bound.min(points.len())];
+    near.binary_search_by(|p| key_order::<Small>(p.key, key))
 }

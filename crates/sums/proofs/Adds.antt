@@ -28,6 +28,14 @@ le-top (inf true) p = absurd p
 le-top (inf false) p = tt
 le-top (fin s m e) p = tt
 
+-- and only infinity is no smaller than it
+pub top-le : (y : Float) → T (nonneg y) → T (le (inf false) y) → y ≡ inf false
+unfolding le
+top-le nan p h = absurd p
+top-le (inf true) p h = absurd p
+top-le (inf false) p h = refl
+top-le (fin s m e) p h = absurd h
+
 split : (a b : Bool) → T (a || b) → T a ⊎ T b
 split true b t = inl tt
 split false b t = inr t

@@ -1,6 +1,7 @@
 // Runs of changes: keys that rise, that fall or that meet in the middle, and keys by chance.
 ghost use Rattle.std.specs.Prelude.{◌≡◌, ◌+◌, ◌%◌, None, []};
 ghost use Rattle.table.specs.Kids.{kids_of};
+ghost use Rattle.tree.specs.Standing.{Standing};
 
 use crate::checks::check;
 use crate::trial::{Act, Points, Pt, Trial};
@@ -55,7 +56,10 @@ pub fn sweep<K: Kind<Coordinate = u64, Recorded = u32>>(
     order: Order,
     n: u32,
     back: bool,
-) -> Result<(), Fail> {
+) -> Result<(), Fail>
+    ensures standing { Standing K.Kind.meaning trial.new.nodes.now trial.new.header }
+    ensures same_table { trial.new.nodes.ghost_name ≡ trial.old.nodes.ghost_name }
+{
     for i in 0..n {
         let k = if back { n - 1 - i } else { i };
         trial.step(act, point_of(order, k))?;
@@ -106,7 +110,10 @@ fn churn<K: Kind<Coordinate = u64, Recorded = u32>>(
     trial: &mut Trial<'_, K>,
     odds: Odds,
     n: u32,
-) -> Result<(), Fail> {
+) -> Result<(), Fail>
+    ensures standing { Standing K.Kind.meaning trial.new.nodes.now trial.new.header }
+    ensures same_table { trial.new.nodes.ghost_name ≡ trial.old.nodes.ghost_name }
+{
     let mut seed = 0x9E37_79B9_7F4A_7C15;
     for _ in 0..n {
         seed = next(seed);
@@ -121,7 +128,10 @@ fn sweeps<K: Kind<Coordinate = u64, Recorded = u32>>(
     trial: &mut Trial<'_, K>,
     order: Order,
     n: u32,
-) -> Result<(), Fail> {
+) -> Result<(), Fail>
+    ensures standing { Standing K.Kind.meaning trial.new.nodes.now trial.new.header }
+    ensures same_table { trial.new.nodes.ghost_name ≡ trial.old.nodes.ghost_name }
+{
     sweep::<K>(trial, Act::Insert, order, n, false)?;
     sweep::<K>(trial, Act::Change, order, n, true)?;
     sweep::<K>(trial, Act::Remove, order, n, false)?;

@@ -66,7 +66,10 @@ impl<'a, K: Kind<Coordinate = u64, Recorded = u32>> Trial<'a, K> {
 
     // Makes one change, in the tree and in the map: an insertion if the key does not stand and
     // there is room, else a removal or another weight if it stands.
-    fn make(&mut self, act: Act, x: Pt) -> Result<(), Fail> {
+    fn make(&mut self, act: Act, x: Pt) -> Result<(), Fail>
+        ensures standing { Standing K.Kind.meaning self.new.nodes.now self.new.header }
+        ensures same_table { self.new.nodes.ghost_name ≡ self.old.nodes.ghost_name }
+    {
         let key = x.key();
         let stands = self.points.contains_key(&key);
         match act {
@@ -108,7 +111,10 @@ impl<'a, K: Kind<Coordinate = u64, Recorded = u32>> Trial<'a, K> {
     }
 
     // Makes one change and tests what stands then.
-    pub fn step(&mut self, act: Act, x: Pt) -> Result<(), Fail> {
+    pub fn step(&mut self, act: Act, x: Pt) -> Result<(), Fail>
+        ensures standing { Standing K.Kind.meaning self.new.nodes.now self.new.header }
+        ensures same_table { self.new.nodes.ghost_name ≡ self.old.nodes.ghost_name }
+    {
         self.make(act, x)?;
         self.verify()
     }

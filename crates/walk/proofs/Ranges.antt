@@ -1,9 +1,10 @@
 -- The range walk, turn by turn: what is listed, and what is left.
-use Rattle.std.proofs.Common.{◌≡◌, ℕ, ◌+◌, ◌<◌, ◌≤◌, Bool, true, false, cond, ◌&&◌, ltb, List, [], ◌∷◌, ◌++◌, length, take, drop, set, Some, None, Option, sym, refl, ap, ◌∙◌, subst, append_assoc, append-nil, le_refl, arith, length-append, length-drop, length-take, ltb-false, ltb-true}
+use Rattle.std.proofs.Common.{◌≡◌, ℕ, ◌+◌, ◌-◌, ◌<◌, ◌≤◌, Bool, true, false, cond, ◌&&◌, ltb, List, [], ◌∷◌, ◌++◌, length, get_or, reverse, take, drop, set, Some, None, Option, sym, refl, ap, ◌∙◌, subst, append_assoc, append-nil, le_refl, arith, length-append, length-drop, length-take, ltb-false, ltb-true}
 use lib.ListN.{length-reverse}
+use mathlib.Core.List.{reverse-append}
 use Rattle.std.specs.Option.{option_to_list}
 use Rattle.std.specs.List.{flat_map}
-use Rattle.std.proofs.lemmas.List.{set-append_right, take_all, drop_all, drop_more, take-append-le}
+use Rattle.std.proofs.lemmas.List.{set-append_right, take_all, take_more, drop_all, drop_more, take-append-le}
 use Rattle.std.proofs.lemmas.List.Elements.{filter-append}
 use Rattle.kinds.specs.Meaning.{Meaning}
 use Rattle.plain.specs.declared.point.Point.{Point}
@@ -109,6 +110,13 @@ module _ {X : Type 0} where
 pub at_most_one : (b : Bool) (n : ℕ) → cond b (n + 1) n ≤ n + 1
 at_most_one true n = omega arith
 at_most_one false n = omega arith
+
+-- the entry on top, and those below it
+pub pile-top : (es : List Subtree) (d : ℕ) → 0 < d → d ≤ length es → (z : Subtree) → pile es d ≡ get_or es (d - 1) z ∷ pile es (d - 1)
+pile-top es d some few z =
+    let e : d ≡ d - 1 + 1 = omega arith in
+    let w : d - 1 < length es = omega arith in
+    ap (pile es) e ∙ ap reverse (take_more es (d - 1) z w) ∙ reverse-append (take (d - 1) es) (get_or es (d - 1) z ∷ [])
 
 pub pile-long : (es : List Subtree) (d : ℕ) → d ≤ length es → length (pile es d) ≡ d
 pile-long es d few = omega (arith, length-reverse (take d es), length-take d es)
