@@ -87,7 +87,6 @@ fn heads(s: &[u8], top: u64, next: u64) -> Option<(u64, u64, &[u8])>
 }
 
 // A decimal field of at most `top` before the first blank, and what follows that blank.
-#[inline]
 fn head(s: &[u8], top: u64) -> Option<(u64, &[u8])>
     ensures { MatchOption result ((n : ℕ) (y : List ℕ) → Head top n y s.now → ⊥) (λ p. Head top p.0 p.1.now s.now) }
 {

@@ -26,6 +26,7 @@ impl Session {
     fn run(&mut self, script: &[u8]) -> Result<(), AllocError>
         ensures { OnOk result ((os : List ℕ) × Lines self.old.set script.now os × (string_bytes self.new.out ≡ string_bytes self.old.out ++ os)) }
     {
+        // One call of `reply`, which is laid in line then: a call would cost a short line a fourteenth more.
         // Not `split_inclusive`: the newline would have to be cut off each line but the last, and its
         // contract speaks of runs of the closure.
         let mut rest = script;
